@@ -97,10 +97,12 @@ tables_in value field = required field (tables_of field) (member_in value field)
 unfoldable pub address_in : Data → Result (List ℕ) ConfigFault
 address_in value = required field.Address address_value (member_in value field.Address)
 
+unfoldable pub option_flag_in : Data → Field → Result (Option Bool) ConfigFault
+option_flag_in value field = optional field boolean_value (member_in value field)
+
 unfoldable pub flag_in : Data → Field → (default : Bool) → Result Bool ConfigFault
 flag_in value field default =
-    result_map_both (λ flag. unwrap_or flag default) (λ fault. fault)
-    (optional field boolean_value (member_in value field))
+    result_map_both (λ flag. unwrap_or flag default) (λ fault. fault) (option_flag_in value field)
 
 -- whether a client signs: in version 3 unless it says otherwise, before only if it says so
 abbrev pub signed_in : (version : ℕ) → Data → Result Bool ConfigFault
@@ -110,6 +112,18 @@ signed_in version value = flag_in value field.Signed (is_strict version)
 abbrev pub disabled_in : (version : ℕ) → Data → Result Bool ConfigFault
 disabled_in version value =
     if is_strict version then flag_in value field.Disabled false else Ok false
+
+-- whether fresh asks end a link of their own station, or the delay of an Accounting-On or
+-- Accounting-Off counts, as the head says: only if it says so, and only in version 3
+unfoldable pub head_flag_in : (version : ℕ) → Data → Field → Result Bool ConfigFault
+head_flag_in version value field =
+    if is_strict version then flag_in value field false else Ok false
+
+-- whether an account's fresh asks end a link of their own station, if it says so: only version 3
+-- knows it
+unfoldable pub own_station_in : (version : ℕ) → Data → Result (Option Bool) ConfigFault
+own_station_in version value =
+    if is_strict version then option_flag_in value field.Station else Ok None
 
 -- `Unknown` of the first key that the table may not have, in the order of octets
 abbrev pub unknown_of : Part → Members → Option ConfigFault
@@ -274,6 +288,8 @@ settings_in value =
     and_then (number_in value field.ClosedSecs) (λ closed.
     and_then (number_in value field.KeepSecs) (λ keep.
     and_then (own_in version value field.InterimSecs) (λ interim.
+    and_then (head_flag_in version value field.Station) (λ station.
+    and_then (head_flag_in version value field.DelayTime) (λ delay_time.
     Ok (record {
       version = version;
       shards = shards;
@@ -283,7 +299,9 @@ settings_in value =
       closed = closed;
       keep = keep;
       interim = interim;
-    }))))))))))
+      station = station;
+      delay_time = delay_time;
+    }))))))))))))
 
 unfoldable pub client_in : (version : ℕ) → Data → Result Client ConfigFault
 client_in version value =
@@ -316,6 +334,7 @@ entry_in version shared value =
     and_then (own_in version value field.OwnLive) (λ own_live.
     and_then (own_in version value field.OwnGrace) (λ own_grace.
     and_then (own_in version value field.InterimSecs) (λ interim.
+    and_then (own_station_in version value) (λ own_station.
     and_then (disabled_in version value) (λ disabled.
     and_then (port_limit_in version shared.port_limit value) (λ port_limit.
     and_then (reply_in version shared.profiles name value) (λ reply.
@@ -330,10 +349,11 @@ entry_in version shared value =
       own_live = own_live;
       own_grace = own_grace;
       interim = interim;
+      own_station = own_station;
       disabled = disabled;
       port_limit = port_limit;
       reply = reply;
-    }))))))))))))))))
+    })))))))))))))))))
 
 -- each value, or the first fault
 abbrev pub each : {T : Type 0} → (Data → Result T ConfigFault) → List Data

@@ -7,8 +7,8 @@ ghost use Rattle.rsl_account_file.specs.File.{file_of, settings_in, client_in, e
 use crate::profile::Shared;
 use crate::replies::{port_limit, reply};
 use crate::table::{
-    address, check_names, disabled, disconnect, interim, number, own_time, password, secret,
-    short_number, signed, text, trusted,
+    address, check_names, disabled, disconnect, head_flag, interim, number, own_station, own_time,
+    password, secret, short_number, signed, text, trusted,
 };
 use rsl_accounts::{Client, ConfigFault, Entry, Field, Part, Rules, Secret, Settings, Text};
 use std::alloc::Global;
@@ -45,6 +45,8 @@ pub(crate) fn settings(alloc: Global, file: &Value) -> Result<Settings, ConfigFa
         closed: number(file, Field::ClosedSecs)?,
         keep: number(file, Field::KeepSecs)?,
         interim: interim(version, file)?,
+        station: head_flag(version, file, Field::Station)?,
+        delay_time: head_flag(version, file, Field::DelayTime)?,
     })
 }
 
@@ -107,6 +109,7 @@ fn entry(alloc: Global, version: u64, shared: &Shared, table: &Value) -> Result<
         own_live: own_time(version, table, Field::OwnLive)?,
         own_grace: own_time(version, table, Field::OwnGrace)?,
         interim: interim(version, table)?,
+        own_station: own_station(version, table)?,
         disabled: disabled(version, table)?,
         port_limit: port_limit(version, shared.port_limit(), table)?,
         reply: reply(alloc, version, shared.profiles(), name, table)?,

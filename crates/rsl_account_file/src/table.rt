@@ -28,6 +28,7 @@ ghost use Rattle.rsl_account_file.specs.File.{
   tables_of_list,
   tables_of,
   number_in,
+  option_flag_in,
   option_in,
   option_text_in,
   password_in,
@@ -37,6 +38,7 @@ ghost use Rattle.rsl_account_file.specs.File.{
   disconnect_in,
   disconnect_of,
   flag_in,
+  head_flag_in,
   misspelled_in,
   port_in,
   secret_in,
@@ -44,6 +46,7 @@ ghost use Rattle.rsl_account_file.specs.File.{
   trusted_in,
   unknown_in,
   own_in,
+  own_station_in,
   tables_in,
 };
 ghost use Rattle.rsl_accounts.specs.Walk.{number_fault, option_fault};
@@ -228,17 +231,50 @@ pub(crate) fn address(table: &Value) -> Result<[u8; 4], ConfigFault>
     }
 }
 
+/// The boolean of a field that may be left out.
+#[tactic(auto, unfolding(crate::specs::File::option_flag_in))]
+fn optional_flag(table: &Value, field: Field) -> Result<Option<bool>, ConfigFault>
+    ensures { result ≡ option_flag_in (view table.now) field }
+{
+    match member(table, field) {
+        Some(value) => match value.as_bool() {
+            Some(flag) => Ok(Some(flag)),
+            None => Err(ConfigFault::BadValue(field)),
+        },
+        None => Ok(None),
+    }
+}
+
 /// The boolean of a field, or `default` if it is left out.
 #[tactic(auto, unfolding(crate::specs::File::flag_in))]
 pub(crate) fn flag(table: &Value, field: Field, default: bool) -> Result<bool, ConfigFault>
     ensures { result ≡ flag_in (view table.now) field default }
 {
-    match member(table, field) {
-        Some(value) => match value.as_bool() {
-            Some(flag) => Ok(flag),
-            None => Err(ConfigFault::BadValue(field)),
-        },
-        None => Ok(default),
+    Ok(optional_flag(table, field)?.unwrap_or(default))
+}
+
+/// The boolean of a field of the head, which only version 3 knows: false if it is left out.
+#[tactic(auto, unfolding(crate::specs::File::head_flag_in))]
+pub(crate) fn head_flag(version: u64, file: &Value, field: Field) -> Result<bool, ConfigFault>
+    ensures { result ≡ head_flag_in version (view file.now) field }
+{
+    if is_strict(version) {
+        flag(file, field, false)
+    } else {
+        Ok(false)
+    }
+}
+
+/// Whether an account's fresh asks end a link of their own station, if it says so. Only version 3
+/// knows it.
+#[tactic(auto, unfolding(crate::specs::File::own_station_in))]
+pub(crate) fn own_station(version: u64, table: &Value) -> Result<Option<bool>, ConfigFault>
+    ensures { result ≡ own_station_in version (view table.now) }
+{
+    if is_strict(version) {
+        optional_flag(table, Field::Station)
+    } else {
+        Ok(None)
     }
 }
 

@@ -1,6 +1,6 @@
 -- The configuration of some settings, clients and accounts: the checks that they have to pass, and
 -- what is looked up in it.
-use Rattle.std.specs.Prelude.{◌≡◌, ℕ, Bool, false, ◌||◌, if◌then◌else◌, nat_lt, nat_eq, List, [], ◌∷◌, ◌++◌, ◌*◌, map, position, Option, None, Some, is_none, Result, Ok, Err}
+use Rattle.std.specs.Prelude.{◌≡◌, ℕ, Bool, false, ◌||◌, if◌then◌else◌, nat_lt, nat_eq, List, [], ◌∷◌, ◌++◌, ◌*◌, map, position, slice_get, unwrap_or, Option, None, Some, is_none, Result, Ok, Err}
 use Rattle.std.specs.Cmp.Lexicographic.{pointwise}
 use Rattle.std.specs.List.{list_any}
 use Rattle.std.specs.Option.{option_map_or}
@@ -94,3 +94,9 @@ client_number config address =
 -- the number of the account with the name
 abbrev pub account_number : Configuration → List ℕ → Option ℕ
 account_number config name = position (λ account. same_octets name account.name) config.accounts
+
+-- whether an account counts by stations: as it says itself, else as the settings say
+abbrev pub counts_stations : Configuration → (account : ℕ) → Bool
+counts_stations config account =
+    option_map_or (λ found. unwrap_or found.own_station config.settings.station)
+    (slice_get config.accounts account) false

@@ -12,14 +12,14 @@ abbrev pub fields_of : Part → List Field
 fields_of Head =
     field.Version ∷ field.Shards ∷ field.ReserveSecs ∷ field.LiveSecs ∷ field.GraceSecs
     ∷ field.ClosedSecs ∷ field.KeepSecs ∷ field.InterimSecs ∷ field.Client ∷ field.Account
-    ∷ field.Profile ∷ field.PortLimit ∷ []
+    ∷ field.Profile ∷ field.PortLimit ∷ field.Station ∷ field.DelayTime ∷ []
 fields_of Client =
     field.Address ∷ field.Secret ∷ field.Signed ∷ field.Trusted ∷ field.Disconnect ∷ []
 fields_of Account =
     field.Name ∷ field.Password ∷ field.Places ∷ field.Ports ∷ field.ServiceType
     ∷ field.FramedProtocol ∷ field.SessionTimeout ∷ field.IdleTimeout ∷ field.OwnLive
     ∷ field.OwnGrace ∷ field.InterimSecs ∷ field.Disabled ∷ field.Reply ∷ field.Profile
-    ∷ field.PortLimit ∷ []
+    ∷ field.PortLimit ∷ field.Station ∷ []
 fields_of Disconnect = field.Port ∷ []
 fields_of Profile = field.Reply ∷ []
 

@@ -23,6 +23,7 @@ ghost use Rattle.rsl_accounts.specs.Configuration.{
   PassesBeforeNames,
   client_number,
   account_number,
+  counts_stations,
   comes_twice,
   addresses,
   names,
@@ -169,6 +170,25 @@ impl Config {
         ensures { result ≡ knows_ipv6 self.now.settings.version }
     {
         knows_ipv6(self.settings.version)
+    }
+
+    /// Whether the account with this number counts by stations, so that a fresh ask ends a link of
+    /// its own station (docs/SESSION-RULE.md): as it says itself, else as the settings say.
+    pub fn counts_stations(&self, account: u32) -> bool
+        requires { account < length self.now.accounts }
+        ensures { result ≡ counts_stations self.now account }
+    {
+        self.entry(account)
+            .own_station
+            .unwrap_or(self.settings.station)
+    }
+
+    /// Whether an Accounting-On or Accounting-Off is as old as its Acct-Delay-Time (RFC 2866
+    /// section 5.2) says.
+    pub fn heeds_delay_time(&self) -> bool
+        ensures { result ≡ self.now.settings.delay_time }
+    {
+        self.settings.delay_time
     }
 
     /// The number of the account with the name, if there is one.

@@ -50,6 +50,8 @@ pub struct Entry {
     pub own_live: Option<u64>,
     /// The account's own grace time in seconds, 1 to 86,400; ignored in version 1.
     pub own_grace: Option<u64>,
+    /// Whether the account counts by stations; the settings say so if the account does not.
+    pub own_station: Option<bool>,
 }
 
 impl Entry {

@@ -102,6 +102,10 @@ pub enum Field {
     Profile,
     /// Whether accepts have a Port-Limit.
     PortLimit,
+    /// Whether a fresh ask ends a link of its own station, of the file or of an account.
+    Station,
+    /// Whether an Accounting-On or Accounting-Off is as old as its Acct-Delay-Time says.
+    DelayTime,
 }
 
 impl Field {
@@ -140,6 +144,8 @@ impl Field {
             Field::Reply => "reply",
             Field::Profile => "profile",
             Field::PortLimit => "port_limit",
+            Field::Station => "station",
+            Field::DelayTime => "delay_time",
         }
     }
 

@@ -39,6 +39,8 @@ impl Part {
                 Field::Account,
                 Field::Profile,
                 Field::PortLimit,
+                Field::Station,
+                Field::DelayTime,
             ],
             Part::Client => &[
                 Field::Address,
@@ -63,6 +65,7 @@ impl Part {
                 Field::Reply,
                 Field::Profile,
                 Field::PortLimit,
+                Field::Station,
             ],
             Part::Disconnect => &[Field::Port],
             Part::Profile => &[Field::Reply],

@@ -63,6 +63,12 @@ pub struct Settings {
     /// The interim interval of accepts in seconds, for accounts without their own: 60 to 86,400;
     /// ignored in version 1.
     pub interim: Option<u32>,
+    /// Whether accounts count by stations (Calling-Station-Id, RFC 2865 section 5.31), so that a
+    /// fresh ask ends a link of its own station; for accounts that do not say so themselves.
+    pub station: bool,
+    /// Whether an Accounting-On or Accounting-Off is as old as its Acct-Delay-Time (RFC 2866
+    /// section 5.2) says.
+    pub delay_time: bool,
 }
 
 impl Settings {

@@ -12,7 +12,7 @@ use Rattle.rsl_wire.specs.declared.packet.WireFault.{WireFault}
 use Rattle.rsl_event.specs.Request.{access_server_of, named_account, proxy_len, secret_of, account_password, is_disabled, is_trusted, text_of, most_proxy_len}
 use Rattle.rsl_event.specs.Access.{asks_once, if_let_in, is_let_in, asker, ask_or_reject, unless_dropped, request_meaning, access_by, access_meaning}
 use Rattle.rsl_event.specs.Signature.{must_sign, signature_drop, rule_of}
-use Rattle.rsl_event.specs.Accounting.{note_of, session_act, session_meaning, if_session, by_status, status_meaning, if_status, accounting_by, accounting_meaning}
+use Rattle.rsl_event.specs.Accounting.{delay_in, note_of, session_act, session_meaning, if_session, by_status, status_meaning, if_status, accounting_by, accounting_meaning}
 use Rattle.rsl_event.specs.Meaning.{packet_meaning, if_client, if_packet, meaning}
 use Rattle.rsl_event.specs.Prepared.{HasProxyStates, HasAccount, HasRoomForReply, IsOfOneAccount, HasOwnAct}
 use Rattle.rsl_event.specs.Status.{status_of}
@@ -123,17 +123,17 @@ access_meant config source client fields m e =
 
 -- ---- an Accounting-Request
 
-session_own : (config : Configuration) (boot client : ℕ) (status : Status) (attributes : List Attribute) → IsOfOneAccount (session_act config boot client status attributes)
-session_own config boot client statuses.Start attributes = tt
-session_own config boot client statuses.Stop attributes = tt
-session_own config boot client statuses.InterimUpdate attributes = tt
-session_own config boot client statuses.AccountingOn attributes = tt
-session_own config boot client statuses.AccountingOff attributes = tt
+session_own : (config : Configuration) (boot client account : ℕ) (status : Status) (attributes : List Attribute) → IsOfOneAccount (session_act config boot client account status attributes)
+session_own config boot client account statuses.Start attributes = tt
+session_own config boot client account statuses.Stop attributes = tt
+session_own config boot client account statuses.InterimUpdate attributes = tt
+session_own config boot client account statuses.AccountingOn attributes = tt
+session_own config boot client account statuses.AccountingOff attributes = tt
 
 session_meant : (config : Configuration) (boot client : ℕ) (status : Status) (octets : List ℕ) (attributes : List Attribute) (account : Option ℕ) → HasProxyStates config octets → named_account config attributes ≡ account
     → IsMeant config octets (session_meaning config boot client status attributes account)
 session_meant config boot client status octets attributes None has e = record { account = tt; room = has; own = tt }
-session_meant config boot client status octets attributes (Some account) has e = record { account = named_within config (first_of USER_NAME attributes) account e; room = has; own = session_own config boot client status attributes }
+session_meant config boot client status octets attributes (Some account) has e = record { account = named_within config (first_of USER_NAME attributes) account e; room = has; own = session_own config boot client account status attributes }
 
 if_session_meant : (config : Configuration) (boot client : ℕ) (status : Status) (octets : List ℕ) (attributes : List Attribute) (m : Meaning) → HasProxyStates config octets
     → if_session config boot client status attributes ≡ Ok m → IsMeant config octets m
@@ -144,8 +144,8 @@ if_session_meant config boot client status octets attributes m has e =
 
 by_status_meant : (config : Configuration) (boot client number : ℕ) (octets : List ℕ) (attributes : List Attribute) (status : Option Status) (m : Meaning) → HasProxyStates config octets
     → by_status config boot client number attributes status ≡ Ok m → IsMeant config octets m
-by_status_meant config boot client number octets attributes (Some statuses.AccountingOn) m has e = subst (IsMeant config octets) (ok_is (Restart (access_server_of config client attributes)) m e) (record { account = tt; room = has; own = tt })
-by_status_meant config boot client number octets attributes (Some statuses.AccountingOff) m has e = subst (IsMeant config octets) (ok_is (Restart (access_server_of config client attributes)) m e) (record { account = tt; room = has; own = tt })
+by_status_meant config boot client number octets attributes (Some statuses.AccountingOn) m has e = subst (IsMeant config octets) (ok_is (Restart (access_server_of config client attributes) (delay_in config attributes)) m e) (record { account = tt; room = has; own = tt })
+by_status_meant config boot client number octets attributes (Some statuses.AccountingOff) m has e = subst (IsMeant config octets) (ok_is (Restart (access_server_of config client attributes) (delay_in config attributes)) m e) (record { account = tt; room = has; own = tt })
 by_status_meant config boot client number octets attributes (Some statuses.Start) m has e = if_session_meant config boot client statuses.Start octets attributes m has e
 by_status_meant config boot client number octets attributes (Some statuses.Stop) m has e = if_session_meant config boot client statuses.Stop octets attributes m has e
 by_status_meant config boot client number octets attributes (Some statuses.InterimUpdate) m has e = if_session_meant config boot client statuses.InterimUpdate octets attributes m has e

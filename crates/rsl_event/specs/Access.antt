@@ -6,6 +6,7 @@ use Rattle.rsl_auth.specs.Password.{matches_password}
 use Rattle.rsl_wire.specs.Attributes.{Attribute, first_of, attribute_list}
 use Rattle.rsl_wire.specs.Packet.{Fields}
 use Rattle.rsl_event.specs.Request.{attribute_count, access_server_of, named_account, proxy_len, secret_of, account_password, is_disabled, is_trusted, most_proxy_len}
+use Rattle.rsl_event.specs.Station.{station_in}
 use Rattle.rsl_event.specs.Signature.{must_sign, signature_drop, rule_of}
 use Rattle.rsl_event.specs.declared.event.Source.{Source}
 use Rattle.rsl_event.specs.declared.event.Act.TheVariants.{Ask}
@@ -101,7 +102,7 @@ ask_or_reject config source client fields attributes None = Reject
 ask_or_reject config source client fields attributes (Some account) =
     Own account
     (Ask (record { source = source; id = fields.id; authenticator = fields.authenticator })
-    (access_server_of config client attributes))
+    (access_server_of config client attributes) (station_in config account attributes))
 
 -- the cause to drop the request, if there is one, else its meaning
 abbrev pub unless_dropped : Option Dropped → Result Meaning Dropped → Result Meaning Dropped

@@ -1,5 +1,5 @@
 -- What is copied out of a datagram into memory of its own.
-use Rattle.std.specs.Prelude.{Result, Ok, Err}
+use Rattle.std.specs.Prelude.{ℕ, List, Option, Some, None, Result, Ok, Err}
 use Rattle.rsl_event.specs.declared.event.Act.{Act}
 use Rattle.rsl_event.specs.declared.event.Act.TheVariants.{Ask, Sweep, Tick}
 use Rattle.rsl_event.specs.declared.meaning.Dropped.{Dropped}
@@ -13,10 +13,15 @@ abbrev pub IsNamed : NasName → Type 0
 IsNamed Unnamed = ⊥
 IsNamed _ = Unit {0}
 
--- an act has octets of its own: those of its access server's name, or of its session
+-- an access server has a name, or there is a station
+abbrev pub IsNamedWith : Option (List ℕ) → NasName → Type 0
+IsNamedWith None name = IsNamed name
+IsNamedWith (Some station) name = Unit {0}
+
+-- an act has octets of its own: those of its access server's name, of its station, or of its session
 abbrev pub ActHoldsOctets : Act → Type 0
-ActHoldsOctets (Ask key nas) = IsNamed nas.name
-ActHoldsOctets (Sweep nas) = IsNamed nas.name
+ActHoldsOctets (Ask key nas station) = IsNamedWith station nas.name
+ActHoldsOctets (Sweep nas delay) = IsNamed nas.name
 ActHoldsOctets Tick = ⊥
 ActHoldsOctets _ = Unit {0}
 
@@ -25,7 +30,7 @@ abbrev pub HoldsOctets : Meaning → Type 0
 HoldsOctets Bare = ⊥
 HoldsOctets Reject = ⊥
 HoldsOctets (Own account act) = ActHoldsOctets act
-HoldsOctets (Restart nas) = IsNamed nas.name
+HoldsOctets (Restart nas delay) = IsNamed nas.name
 HoldsOctets (Stray note) = Unit {0}
 
 -- there is a meaning, and it has octets of its own

@@ -1,6 +1,7 @@
 pub mod Request
 pub mod Occurrences
 pub mod Signature
+pub mod Station
 pub mod Status
 pub mod Access
 pub mod Accounting

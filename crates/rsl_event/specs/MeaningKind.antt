@@ -9,7 +9,7 @@ use Rattle.rsl_event.specs.declared.meaning.Meaning.TheVariants.{Bare, Reject, O
 
 -- the kind of an act of an account: only an ask is decided
 abbrev pub kind_of_act : (account : ℕ) → Act → MeaningKind
-kind_of_act account (Ask key nas) = kinds.Ask account
+kind_of_act account (Ask key nas station) = kinds.Ask account
 kind_of_act account _ = kinds.Account
 
 -- the kind of a meaning
@@ -17,5 +17,5 @@ abbrev pub kind_of : Meaning → MeaningKind
 kind_of Bare = kinds.Bare
 kind_of Reject = kinds.Reject
 kind_of (Own account act) = kind_of_act account act
-kind_of (Restart nas) = kinds.Account
+kind_of (Restart nas delay) = kinds.Account
 kind_of (Stray note) = kinds.Account

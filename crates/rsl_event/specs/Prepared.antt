@@ -52,7 +52,7 @@ HasRoomFor config attributes _ = HasProxyStates config attributes
 
 -- an act of one account: an ask, an alive or a stop
 abbrev pub IsOfOneAccount : Act → Type 0
-IsOfOneAccount (Sweep nas) = ⊥
+IsOfOneAccount (Sweep nas delay) = ⊥
 IsOfOneAccount Tick = ⊥
 IsOfOneAccount _ = Unit {0}
 

@@ -11,6 +11,7 @@ use crate::event::{Act, Key, Source};
 use crate::meaning::{Dropped, Meaning};
 use crate::request::{account_named, most_proxy_len};
 use crate::signature::signature_drop;
+use crate::station::station_in;
 use rsl_accounts::{Client, Config, Secret};
 use rsl_auth::{chap_ok, pap_ok};
 use rsl_wire::Packet;
@@ -58,9 +59,10 @@ pub(crate) fn access_meaning(
         authenticator: packet.authenticator,
     };
     let nas = attributes.access_server(alloc, config, client)?;
+    let station = station_in(alloc, config, account, &attributes.all)?;
     let meaning = Meaning::Own {
         account,
-        act: Act::Ask { key, nas },
+        act: Act::Ask { key, nas, station },
     };
     Ok((meaning, Detail::Asks))
 }

@@ -5,6 +5,7 @@ ghost use Rattle.rsl_wire.specs.Seen.{fields_of};
 ghost use Rattle.rsl_event.specs.Accounting.{
   class_number,
   class_in,
+  delay_in,
   unless_empty,
   note_of,
   if_session,
@@ -17,8 +18,8 @@ ghost use Rattle.rsl_event.specs.Meaning.{Gives};
 ghost use Rattle.rsl_event.specs.declared.detail.Detail.TheVariants.{Accounting};
 
 use crate::codes::{
-    ACCOUNTING_REQUEST, ACCT_MULTI_SESSION_ID, ACCT_SESSION_ID, ACCT_STATUS_TYPE, CLASS, CLASS_LEN,
-    USER_NAME,
+    ACCOUNTING_REQUEST, ACCT_DELAY_TIME, ACCT_MULTI_SESSION_ID, ACCT_SESSION_ID, ACCT_STATUS_TYPE,
+    CLASS, CLASS_LEN, USER_NAME,
 };
 use crate::detail::Detail;
 use crate::event::Act;
@@ -26,6 +27,7 @@ use crate::meaning::{Dropped, Meaning, Note};
 use crate::request::{
     access_server_of, account_named, has_long_proxy_states, most_proxy_len, text_of,
 };
+use crate::station::station_in;
 use crate::status::Status;
 use rsl_accounts::Config;
 use rsl_auth::accounting_ok;
@@ -82,6 +84,7 @@ fn status_meaning(
     match Status::from_number(number) {
         Some(Status::AccountingOn | Status::AccountingOff) => Ok(Meaning::Restart {
             nas: access_server_of(alloc, config, client, attributes)?,
+            delay: delay_in(config, attributes),
         }),
         Some(status) => session_meaning(alloc, config, boot, client, status, attributes),
         None => Ok(Meaning::Stray(note_of(alloc, config, client, number, attributes)?)),
@@ -105,7 +108,7 @@ fn session_meaning(
     Ok(match account_named(config, attributes.first(USER_NAME)) {
         Some(account) => Meaning::Own {
             account,
-            act: session_act(alloc, config, boot, client, status, attributes)?,
+            act: session_act(alloc, config, boot, client, account, status, attributes)?,
         },
         None => Meaning::Stray(note_of(alloc, config, client, status.number(), attributes)?),
     })
@@ -117,10 +120,13 @@ fn session_act(
     config: &Config,
     boot: u64,
     client: u32,
+    account: u32,
     status: Status,
     attributes: &Attrs<'_>,
 ) -> Result<Act, NoMemory>
-    ensures { IfOk result (λ act. act ≡ session_act config.now boot client status attributes.now) }
+    requires { account < length config.now.accounts }
+    ensures { IfOk result (λ act.
+        act ≡ session_act config.now boot client account status attributes.now) }
 {
     let nas = access_server_of(alloc, config, client, attributes)?;
     let session = Octets::from_slice(alloc, text_of(attributes, ACCT_SESSION_ID))?;
@@ -129,12 +135,25 @@ fn session_act(
     }
     let bundle = bundle_in(alloc, attributes)?;
     let class = class_in(boot, attributes);
+    let station = station_in(alloc, config, account, attributes)?;
     Ok(Act::Alive {
         nas,
         session,
         bundle,
         class,
+        station,
     })
+}
+
+/// How many seconds ago the access server restarted: its Acct-Delay-Time (RFC 2866 section 5.2), if the
+/// configuration heeds it, else 0.
+fn delay_in(config: &Config, attributes: &Attrs<'_>) -> u64
+    ensures { result ≡ delay_in config.now attributes.now }
+{
+    if !config.heeds_delay_time() {
+        return 0;
+    }
+    u64::from(attributes.number(ACCT_DELAY_TIME).unwrap_or(0))
 }
 
 /// The first Acct-Multi-Session-Id, unless it is empty.

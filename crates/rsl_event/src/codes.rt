@@ -1,5 +1,5 @@
-//! The numbers of the RFCs, and three of this server's own: `CLASS_LEN`, `MAX_PROXY_STATE_LEN` and
-//! `GUARDED_PROXY_STATE_LEN`.
+//! The numbers of the RFCs, and four of this server's own: `MAX_STATION_LEN`, `CLASS_LEN`,
+//! `MAX_PROXY_STATE_LEN` and `GUARDED_PROXY_STATE_LEN`.
 
 /// Access-Request (RFC 2865 section 4.1).
 pub const ACCESS_REQUEST: u8 = 1;
@@ -32,12 +32,16 @@ pub const CLASS: u8 = 25;
 pub const SESSION_TIMEOUT: u8 = 27;
 /// Idle-Timeout (RFC 2865 section 5.28).
 pub const IDLE_TIMEOUT: u8 = 28;
+/// Calling-Station-Id (RFC 2865 section 5.31).
+pub const CALLING_STATION_ID: u8 = 31;
 /// NAS-Identifier (RFC 2865 section 5.32).
 pub const NAS_IDENTIFIER: u8 = 32;
 /// Proxy-State (RFC 2865 section 5.33).
 pub const PROXY_STATE: u8 = 33;
 /// Acct-Status-Type (RFC 2866 section 5.1).
 pub const ACCT_STATUS_TYPE: u8 = 40;
+/// Acct-Delay-Time (RFC 2866 section 5.2).
+pub const ACCT_DELAY_TIME: u8 = 41;
 /// Acct-Session-Id (RFC 2866 section 5.5).
 pub const ACCT_SESSION_ID: u8 = 44;
 /// Acct-Multi-Session-Id (RFC 2866 section 5.11).
@@ -66,6 +70,8 @@ pub const ACCOUNTING_ON: u32 = 7;
 /// Acct-Status-Type Accounting-Off: the access server is about to stop.
 pub const ACCOUNTING_OFF: u32 = 8;
 
+/// The most octets of a Calling-Station-Id that names a station.
+pub const MAX_STATION_LEN: usize = 64;
 /// Octets of this server's Class: 8 of the boot number, and 8 of the accept number.
 pub const CLASS_LEN: usize = 16;
 /// The most octets of Proxy-State attributes, with their headers, in a request: a reply has room
@@ -97,9 +103,11 @@ const _: () = prove!(
         && CLASS == 25
         && SESSION_TIMEOUT == 27
         && IDLE_TIMEOUT == 28
+        && CALLING_STATION_ID == 31
         && NAS_IDENTIFIER == 32
         && PROXY_STATE == 33
         && ACCT_STATUS_TYPE == 40
+        && ACCT_DELAY_TIME == 41
         && ACCT_SESSION_ID == 44
         && ACCT_MULTI_SESSION_ID == 50
         && CHAP_CHALLENGE == 60
@@ -117,4 +125,4 @@ const _: () = prove!(
 // packet.
 const _: () = prove!(MAX_PROXY_STATE_LEN == 3900 && GUARDED_PROXY_STATE_LEN == 3000);
 
-const _: () = prove!(CLASS_LEN == 16);
+const _: () = prove!(CLASS_LEN == 16 && MAX_STATION_LEN == 64);

@@ -46,6 +46,8 @@ pub enum Act {
         key: Key,
         /// The access server that asks.
         nas: Nas,
+        /// The station that asks, if the request names one and the account counts by it.
+        station: Option<Octets>,
     },
     /// An Accounting-Request of status Start or Interim-Update: the session goes on.
     Alive {
@@ -57,6 +59,9 @@ pub enum Act {
         bundle: Option<Octets>,
         /// The accept number of this server's Class attribute, if there is one.
         class: Option<u64>,
+        /// The station that the session is of, if the packet names one and the account counts by
+        /// it.
+        station: Option<Octets>,
     },
     /// An Accounting-Request of status Stop: the session has ended.
     Stop {
@@ -65,10 +70,12 @@ pub enum Act {
         /// The Acct-Session-Id.
         session: Octets,
     },
-    /// The access server has restarted: each session at it has ended.
+    /// The access server has restarted: each session at it that began before has ended.
     Sweep {
         /// The access server.
         nas: Nas,
+        /// How many seconds ago it restarted.
+        delay: u64,
     },
     /// Time has passed.
     Tick,
@@ -83,22 +90,25 @@ impl Act {
         ensures refused { OnErr result (ActHoldsOctets self.now) }
     {
         Ok(match self {
-            Act::Ask { key, nas } => Act::Ask {
+            Act::Ask { key, nas, station } => Act::Ask {
                 key: *key,
                 nas: nas.try_copy(alloc)?,
+                station: Octets::try_copy_option(alloc, station)?,
             },
             Act::Alive {
                 nas,
                 session,
                 bundle,
                 class,
-            } => copy_alive(alloc, nas, session, bundle, *class)?,
+                station,
+            } => copy_alive(alloc, nas, session, bundle, *class, station)?,
             Act::Stop { nas, session } => Act::Stop {
                 nas: nas.try_copy(alloc)?,
                 session: session.try_copy(alloc)?,
             },
-            Act::Sweep { nas } => Act::Sweep {
+            Act::Sweep { nas, delay } => Act::Sweep {
                 nas: nas.try_copy(alloc)?,
+                delay: *delay,
             },
             Act::Tick => Act::Tick,
         })
@@ -112,14 +122,17 @@ fn copy_alive(
     session: &Octets,
     bundle: &Option<Octets>,
     class: Option<u64>,
+    station: &Option<Octets>,
 ) -> Result<Act, NoMemory>
-    ensures { IfOk result (λ copy. copy ≡ Act.Alive nas.now session.now bundle.now class) }
+    ensures { IfOk result (λ copy.
+        copy ≡ Act.Alive nas.now session.now bundle.now class station.now) }
 {
     Ok(Act::Alive {
         nas: nas.try_copy(alloc)?,
         session: session.try_copy(alloc)?,
         bundle: Octets::try_copy_option(alloc, bundle)?,
         class,
+        station: Octets::try_copy_option(alloc, station)?,
     })
 }
 

@@ -25,6 +25,7 @@ mod reply_packet;
 mod request;
 mod signature;
 mod signing;
+mod station;
 mod status;
 mod words;
 

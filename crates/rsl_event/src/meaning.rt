@@ -64,6 +64,9 @@ pub enum Meaning {
     Restart {
         /// The access server.
         nas: Nas,
+        /// How many seconds ago it restarted, by the Acct-Delay-Time if the configuration heeds it,
+        /// else 0.
+        delay: u64,
     },
     /// Any other accounting packet: it is answered and noted, and changes no count.
     Stray(Note),

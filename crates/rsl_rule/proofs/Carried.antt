@@ -103,10 +103,11 @@ touches_own number Passed opened = cc
 
 pub opened_stands : (xs : List PastEvent) (x : PastEvent) (link now : ℕ) (before session : Option Session) → opens x.outcome ≡ true → link ≡ length xs + 1 → now ≡ max (clock (looking_back xs)) x.event.moment
     → before ≡ session_at link (looking_back xs) → session ≡ option_or before (bound_by link link x)
-    → (let opened : Standing = record { clock = now; touched = now; session = session } in opened) ≡ standing_of (length xs + 1) (x ∷ looking_back xs)
+    → (let opened : Standing = record { clock = now; opened = now; touched = now; session = session } in opened) ≡ standing_of (length xs + 1) (x ∷ looking_back xs)
 opened_stands xs x link now before session opened number at was is =
     let own = touches_own (length xs + 1) x.outcome opened in
-    rw (is, was, at, number) (sym (standing_next (length xs + 1) xs x ∙ rw own refl))
+    let same = eq-eqb (length xs + 1) (length xs + 1) refl in
+    rw (is, was, at, number) (sym (standing_next (length xs + 1) xs x ∙ rw (own, same) refl))
 
 -- what is held before the first event
 pub standings_none : (rules : Rules) → standings (looking_back []) (held_links rules (looking_back [])) ≡ []

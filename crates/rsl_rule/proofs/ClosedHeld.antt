@@ -10,86 +10,85 @@ use Rattle.rsl_event.specs.declared.event.Act.TheVariants.{Ask, Alive, Stop, Swe
 use Rattle.rsl_event.specs.declared.event.Event.{Event}
 use Rattle.rsl_event.specs.declared.nas.Nas.{Nas}
 use Rattle.rsl_session.specs.declared.past_event.PastEvent.{PastEvent}
-use Rattle.rsl_session.specs.declared.outcome.Outcome.{Outcome}
 use Rattle.rsl_session.specs.declared.outcome.Outcome.TheVariants.{Ignored}
-use Rattle.rsl_session.specs.declared.kept.KeptStop.{KeptStop}
 use Rattle.rsl_session.specs.declared.session.Session.{Session}
 use Rattle.rsl_session.specs.Same.{same_session}
 use Rattle.rsl_session.specs.Past.{Past}
-use Rattle.rsl_session.specs.Sweep.{is_sweep_of, swept_in}
+use Rattle.rsl_session.specs.Sweep.{swept_in, voids}
 use Rattle.rsl_session.specs.Clock.{clock, clock_at}
 use Rattle.rsl_session.specs.Link.{opens}
 use Rattle.rsl_session.specs.Binding.{binds, bound_by, is_bound_to, is_session, session_at, session_of}
 use Rattle.rsl_session.specs.Lapse.{lapses}
 use Rattle.rsl_session.specs.Held.{ended_by, held_before, held_links, yields}
 use Rattle.rsl_session.specs.Closed.{closes, is_closed, kept_stop, stops, KEPT_STOPS}
-use Rattle.rsl_session.specs.Alive.{alive_outcome, link_of, reservation_of, unbound_outcome}
+use Rattle.rsl_session.specs.Alive.{alive_outcome, link_of}
 use Rattle.rsl_session.specs.Rule.{IsRuled, outcome_by, outcome_of}
-use Rattle.rsl_session.proofs.Callers.{same_session-true, same_session-refl, bound-later, gives_way, held-opened, held-quiet, left_by}
+use Rattle.rsl_session.proofs.Callers.{same_session-true, bound-later, gives_way, held-opened, held-quiet, left_by}
 
--- entries with no sweep that others have not
-FewerSweeps : List PastEvent → List PastEvent → Type 0
-FewerSweeps some others = (nas : Nas) → swept_in others nas ≡ false → swept_in some nas ≡ false
+-- acts that void nothing that others do not
+FewerSweeps : List (ℕ × Act) → List (ℕ × Act) → Type 0
+FewerSweeps some others = (nas : Nas) (at : ℕ) → swept_in others nas at ≡ false → swept_in some nas at ≡ false
 
-fewer_cons : (entry : PastEvent) (some others : List PastEvent) → FewerSweeps some others → FewerSweeps (entry ∷ some) (entry ∷ others)
+fewer_cons : (act : ℕ × Act) (some others : List (ℕ × Act)) → FewerSweeps some others → FewerSweeps (act ∷ some) (act ∷ others)
 unfolding FewerSweeps swept_in
-fewer_cons entry some others fewer nas none =
-    let parts = or_parts (is_sweep_of nas entry.event.act) (swept_in others nas) none in
-    rw (parts.0, fewer nas parts.1) refl
+fewer_cons act some others fewer nas at none =
+    let parts = or_parts (voids nas at act.0 act.1) (swept_in others nas at) none in
+    rw (parts.0, fewer nas at parts.1) refl
 
-fewer_none : (others : List PastEvent) → FewerSweeps [] others
+fewer_none : (others : List (ℕ × Act)) → FewerSweeps [] others
 unfolding FewerSweeps swept_in
-fewer_none others nas none = refl
+fewer_none others nas at none = refl
 
 -- whether a stop of a session, kept so, closes one
 closes_so : Rules → Session → ℕ → Session → ℕ → Bool → Bool
 closes_so rules session now stopped at swept = same_session stopped session && nat_lt (now - at) rules.closed && not swept
 
 -- what closes a session closed it at each earlier clock, and where fewer entries came since
-closes_sooner : (rules : Rules) (session stopped : Session) (now before at : ℕ) (some others : List PastEvent) → before ≤ now → FewerSweeps some others
-    → closes_so rules session now stopped at (swept_in others stopped.nas) ≡ true → closes_so rules session before stopped at (swept_in some stopped.nas) ≡ true
+closes_sooner : (rules : Rules) (session stopped : Session) (now before at : ℕ) (some others : List (ℕ × Act)) → before ≤ now → FewerSweeps some others
+    → closes_so rules session now stopped at (swept_in others stopped.nas at) ≡ true → closes_so rules session before stopped at (swept_in some stopped.nas at) ≡ true
 unfolding closes_so FewerSweeps
 closes_sooner rules session stopped now before at some others sooner fewer closed =
-    let parts = and_parts (same_session stopped session && nat_lt (now - at) rules.closed) (not (swept_in others stopped.nas)) closed in
+    let parts = and_parts (same_session stopped session && nat_lt (now - at) rules.closed) (not (swept_in others stopped.nas at)) closed in
     let times = and_parts (same_session stopped session) (nat_lt (now - at) rules.closed) parts.0 in
     let late = ltb-true (now - at) rules.closed times.1 in
     and_from _ _ (and_from _ _ times.0 (lt-ltb (before - at) rules.closed (omega arith)))
-    (not_from_false (swept_in some stopped.nas) (fewer stopped.nas (not-true (swept_in others stopped.nas) parts.1)))
+    (not_from_false (swept_in some stopped.nas at) (fewer stopped.nas at (not-true (swept_in others stopped.nas at) parts.1)))
 
 -- the stops among the last that close a session closed it at each earlier clock
-closed_sooner : (rules : Rules) (session : Session) (past : Past) (n m now before : ℕ) (some others : List PastEvent) → n ≤ m → before ≤ now → FewerSweeps some others
+closed_sooner : (rules : Rules) (session : Session) (past : Past) (n m now before : ℕ) (some others : List (ℕ × Act)) → n ≤ m → before ≤ now → FewerSweeps some others
     → list_any (closes rules session now) (take n (stops others past)) ≡ true → list_any (closes rules session before) (take m (stops some past)) ≡ true
 unfolding stops closes_so closes
 closed_sooner rules session [] zero m now before some others few sooner fewer closed = cc
 closed_sooner rules session [] (suc n) m now before some others few sooner fewer closed = cc
 closed_sooner rules session (entry ∷ past) n m now before some others few sooner fewer closed =
+    let next : ℕ × Act = (clock (entry ∷ past), entry.event.act) in
     by_act entry.event.act closed
-    (λ n m few is. closed_sooner rules session past n m now before (entry ∷ some) (entry ∷ others) few sooner (fewer_cons entry some others fewer) is) few
+    (λ n m few is. closed_sooner rules session past n m now before (next ∷ some) (next ∷ others) few sooner (fewer_cons next some others fewer) is) few
   where
     Rest : Type 0
-    Rest = (n m : ℕ) → n ≤ m → list_any (closes rules session now) (take n (stops (entry ∷ others) past)) ≡ true
-        → list_any (closes rules session before) (take m (stops (entry ∷ some) past)) ≡ true
+    Rest = (n m : ℕ) → n ≤ m → list_any (closes rules session now) (take n (stops ((clock (entry ∷ past), entry.event.act) ∷ others) past)) ≡ true
+        → list_any (closes rules session before) (take m (stops ((clock (entry ∷ past), entry.event.act) ∷ some) past)) ≡ true
 
-    here : (stopped : Session) (n m : ℕ) → n ≤ m → (closing : Bool) → closes_so rules session now stopped (clock (entry ∷ past)) (swept_in others stopped.nas) ≡ closing
-        → (closing || list_any (closes rules session now) (take n (stops (entry ∷ others) past))) ≡ true → Rest
-        → (closes_so rules session before stopped (clock (entry ∷ past)) (swept_in some stopped.nas) || list_any (closes rules session before) (take m (stops (entry ∷ some) past))) ≡ true
+    here : (stopped : Session) (n m : ℕ) → n ≤ m → (closing : Bool) → closes_so rules session now stopped (clock (entry ∷ past)) (swept_in others stopped.nas (clock (entry ∷ past))) ≡ closing
+        → (closing || list_any (closes rules session now) (take n (stops ((clock (entry ∷ past), entry.event.act) ∷ others) past))) ≡ true → Rest
+        → (closes_so rules session before stopped (clock (entry ∷ past)) (swept_in some stopped.nas (clock (entry ∷ past))) || list_any (closes rules session before) (take m (stops ((clock (entry ∷ past), entry.event.act) ∷ some) past))) ≡ true
     here stopped n m few true is closed rest =
         rw (closes_sooner rules session stopped now before (clock (entry ∷ past)) some others sooner fewer is) refl
     here stopped n m few false is closed rest =
-        rw (rest n m few closed) (either (closes_so rules session before stopped (clock (entry ∷ past)) (swept_in some stopped.nas))) where
+        rw (rest n m few closed) (either (closes_so rules session before stopped (clock (entry ∷ past)) (swept_in some stopped.nas (clock (entry ∷ past))))) where
           either : (a : Bool) → (a || true) ≡ true
           either true = refl
           either false = refl
 
-    by_act : (act : Act) → list_any (closes rules session now) (take n (cons_option (kept_stop (clock (entry ∷ past)) others act) (stops (entry ∷ others) past))) ≡ true → Rest → n ≤ m
-        → list_any (closes rules session before) (take m (cons_option (kept_stop (clock (entry ∷ past)) some act) (stops (entry ∷ some) past))) ≡ true
-    by_act (Ask key nas) closed rest few = rest n m few closed
-    by_act (Alive nas id bundle class) closed rest few = rest n m few closed
-    by_act (Sweep nas) closed rest few = rest n m few closed
+    by_act : (act : Act) → list_any (closes rules session now) (take n (cons_option (kept_stop (clock (entry ∷ past)) others act) (stops ((clock (entry ∷ past), entry.event.act) ∷ others) past))) ≡ true → Rest → n ≤ m
+        → list_any (closes rules session before) (take m (cons_option (kept_stop (clock (entry ∷ past)) some act) (stops ((clock (entry ∷ past), entry.event.act) ∷ some) past))) ≡ true
+    by_act (Ask key nas station) closed rest few = rest n m few closed
+    by_act (Alive nas id bundle class station) closed rest few = rest n m few closed
+    by_act (Sweep nas delay) closed rest few = rest n m few closed
     by_act Tick closed rest few = rest n m few closed
     by_act (Stop nas id) closed rest few = counted n m few closed where
-      counted : (n m : ℕ) → n ≤ m → list_any (closes rules session now) (take n (cons_option (kept_stop (clock (entry ∷ past)) others (Stop nas id)) (stops (entry ∷ others) past))) ≡ true
-          → list_any (closes rules session before) (take m (cons_option (kept_stop (clock (entry ∷ past)) some (Stop nas id)) (stops (entry ∷ some) past))) ≡ true
+      counted : (n m : ℕ) → n ≤ m → list_any (closes rules session now) (take n (cons_option (kept_stop (clock (entry ∷ past)) others (Stop nas id)) (stops ((clock (entry ∷ past), entry.event.act) ∷ others) past))) ≡ true
+          → list_any (closes rules session before) (take m (cons_option (kept_stop (clock (entry ∷ past)) some (Stop nas id)) (stops ((clock (entry ∷ past), entry.event.act) ∷ some) past))) ≡ true
       counted zero m few closed = cc
       counted (suc n) zero few closed = absurd (omega arith)
       counted (suc n) (suc m) few closed = here (record { nas = nas; id = id }) n m (omega arith) _ refl closed rest
@@ -195,11 +194,11 @@ unfolding BindsNone bound_by binds
 binds_ignored session entry past ignored link = rw ignored refl
 
 -- an alive of a closed session without a held link is ignored
-ignored : (rules : Rules) (past : Past) (event : Event) (nas : Nas) (id : List ℕ) (bundle : Option (List ℕ)) (class : Option ℕ) → event.act ≡ Alive nas id bundle class
+ignored : (rules : Rules) (past : Past) (event : Event) (nas : Nas) (id : List ℕ) (bundle : Option (List ℕ)) (class : Option ℕ) (station : Option (List ℕ)) → event.act ≡ Alive nas id bundle class station
     → list_any (is_bound_to past (record { nas = nas; id = id })) (held_links rules past) ≡ false → is_closed rules past event (record { nas = nas; id = id }) ≡ true
     → outcome_of rules past event ≡ Ignored
 unfolding outcome_of link_of held_before
-ignored rules past event nas id bundle class alive none closed =
+ignored rules past event nas id bundle class station alive none closed =
     let session : Session = record { nas = nas; id = id } in
     let no_link : link_of rules past event session ≡ None =
     none_found (is_bound_to past session) (held_before rules past event)
@@ -210,31 +209,31 @@ ignored rules past event nas id bundle class alive none closed =
       by_link session (Some link) none shut = cc
 
 -- a session that one of the last stops closes has no held link
-unheld : (rules : Rules) (session : Session) (past : Past) (n now : ℕ) (others : List PastEvent) → IsRuled rules past → n ≤ KEPT_STOPS → clock past ≤ now
+unheld : (rules : Rules) (session : Session) (past : Past) (n now : ℕ) (others : List (ℕ × Act)) → IsRuled rules past → n ≤ KEPT_STOPS → clock past ≤ now
     → list_any (closes rules session now) (take n (stops others past)) ≡ true → list_any (is_bound_to past session) (held_links rules past) ≡ false
 unfolding IsRuled stops clock closes is_closed clock_at session_of
 unheld rules session [] zero now others ruled few later closed = cc
 unheld rules session [] (suc n) now others ruled few later closed = cc
 unheld rules session (entry ∷ past) n now others ruled few later closed =
-    by_act entry.event.act refl closed (λ n few closed. unheld rules session past n now (entry ∷ others) ruled.1 few (omega arith) closed)
+    by_act entry.event.act refl closed (λ n few closed. unheld rules session past n now ((clock (entry ∷ past), entry.event.act) ∷ others) ruled.1 few (omega arith) closed)
   where
     Older : Type 0
-    Older = (n : ℕ) → n ≤ KEPT_STOPS → list_any (closes rules session now) (take n (stops (entry ∷ others) past)) ≡ true → list_any (is_bound_to past session) (held_links rules past) ≡ false
+    Older = (n : ℕ) → n ≤ KEPT_STOPS → list_any (closes rules session now) (take n (stops ((clock (entry ∷ past), entry.event.act) ∷ others) past)) ≡ true → list_any (is_bound_to past session) (held_links rules past) ≡ false
 
-    quiet : session_of entry.event.act ≡ None → list_any (closes rules session now) (take n (stops (entry ∷ others) past)) ≡ true → Older
+    quiet : session_of entry.event.act ≡ None → list_any (closes rules session now) (take n (stops ((clock (entry ∷ past), entry.event.act) ∷ others) past)) ≡ true → Older
         → list_any (is_bound_to (entry ∷ past) session) (held_links rules (entry ∷ past)) ≡ false
     quiet none closed rest = unheld_more rules session entry past ruled.1 (binds_none session entry past none) (left_none rules session entry past (rest n few closed))
 
     is_closed_now : list_any (closes rules session (clock (entry ∷ past))) (take KEPT_STOPS (stops [] past)) ≡ true → is_closed rules past entry.event session ≡ true
     is_closed_now closed = closed
 
-    by_act : (act : Act) → entry.event.act ≡ act → list_any (closes rules session now) (take n (cons_option (kept_stop (clock (entry ∷ past)) others act) (stops (entry ∷ others) past))) ≡ true → Older
+    by_act : (act : Act) → entry.event.act ≡ act → list_any (closes rules session now) (take n (cons_option (kept_stop (clock (entry ∷ past)) others act) (stops ((clock (entry ∷ past), entry.event.act) ∷ others) past))) ≡ true → Older
         → list_any (is_bound_to (entry ∷ past) session) (held_links rules (entry ∷ past)) ≡ false
-    by_act (Ask key nas) act closed rest = quiet (ap session_of act) closed rest
-    by_act (Sweep nas) act closed rest = quiet (ap session_of act) closed rest
+    by_act (Ask key nas station) act closed rest = quiet (ap session_of act) closed rest
+    by_act (Sweep nas delay) act closed rest = quiet (ap session_of act) closed rest
     by_act Tick act closed rest = quiet (ap session_of act) closed rest
     by_act (Stop nas id) act closed rest = counted n few closed where
-      counted : (n : ℕ) → n ≤ KEPT_STOPS → list_any (closes rules session now) (take n (cons_option (kept_stop (clock (entry ∷ past)) others (Stop nas id)) (stops (entry ∷ others) past))) ≡ true
+      counted : (n : ℕ) → n ≤ KEPT_STOPS → list_any (closes rules session now) (take n (cons_option (kept_stop (clock (entry ∷ past)) others (Stop nas id)) (stops ((clock (entry ∷ past), entry.event.act) ∷ others) past))) ≡ true
           → list_any (is_bound_to (entry ∷ past) session) (held_links rules (entry ∷ past)) ≡ false
       counted zero few closed = cc
       counted (suc m) few closed =
@@ -243,17 +242,17 @@ unheld rules session (entry ∷ past) n now others ruled few later closed =
             | inl same ↦ left_stopped rules session entry past nas id act same
             | inr other ↦ left_none rules session entry past (rest m (omega arith) (rw other at closed))
           ])
-    by_act (Alive nas id bundle class) act closed rest =
+    by_act (Alive nas id bundle class station) act closed rest =
         let before = rest n few closed in
         elim (cases_Bool (same_session (record { nas = nas; id = id }) session)) [
           | inl same ↦
               let this : _ ≡ session = same_session-true (record { nas = nas; id = id }) session same in
               let shut : is_closed rules past entry.event session ≡ true =
-              is_closed_now (closed_sooner rules session past n KEPT_STOPS now (clock (entry ∷ past)) [] (entry ∷ others) few later (fewer_none (entry ∷ others)) closed) in
+              is_closed_now (closed_sooner rules session past n KEPT_STOPS now (clock (entry ∷ past)) [] ((clock (entry ∷ past), entry.event.act) ∷ others) few later (fewer_none ((clock (entry ∷ past), entry.event.act) ∷ others)) closed) in
               let P : Session → Type 0 = λ s. list_any (is_bound_to past s) (held_links rules past) ≡ false in
               let Q : Session → Type 0 = λ s. is_closed rules past entry.event s ≡ true in
               unheld_more rules session entry past ruled.1
-              (binds_ignored session entry past (ruled.0 ∙ ignored rules past entry.event nas id bundle class act (subst P (sym this) before) (subst Q (sym this) shut)))
+              (binds_ignored session entry past (ruled.0 ∙ ignored rules past entry.event nas id bundle class station act (subst P (sym this) before) (subst Q (sym this) shut)))
               (left_none rules session entry past before)
           | inr other ↦
               unheld_more rules session entry past ruled.1 (binds_another session (record { nas = nas; id = id }) entry past (ap session_of act) other) (left_none rules session entry past before)

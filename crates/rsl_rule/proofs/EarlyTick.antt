@@ -19,43 +19,61 @@ use Rattle.rsl_session.specs.declared.kept.KeptAsk.{KeptAsk}
 use Rattle.rsl_session.specs.declared.session.Session.{Session}
 use Rattle.rsl_session.specs.Past.{Past}
 use Rattle.rsl_session.specs.Places.{places}
-use Rattle.rsl_session.specs.Ask.{has_a_place_without, yielding_link, unfitting_outcome, fresh_outcome, accepts, ask_outcome, has_a_place, repeated_ask}
+use Rattle.rsl_session.specs.Ask.{has_a_place_without, yielding_link, station_link, unfitting_outcome, placed_outcome, returning_outcome, fresh_outcome, accepts, ask_outcome, has_a_place, repeated_ask}
 use Rattle.rsl_session.specs.Closed.{is_closed}
 use Rattle.rsl_session.specs.Alive.{alive_outcome, has_room, link_of, reservation_of, unbound_outcome}
 use Rattle.rsl_session.specs.Rule.{IsRuled, decision_of, decisions, decisions_from, entry_of, outcome_by, outcome_of, past_from, past_of, places_after}
 use Rattle.rsl_session.proofs.Callers.{IsRuled-past_of}
 use Rattle.rsl_rule.specs.Laws.{EarlyTicksChangeNoDecision}
 use Rattle.rsl_rule.proofs.Shift.{shift, shift_outcome, shift_entry, tick_event, tick_entry, after_tick}
-use Rattle.rsl_rule.proofs.TickHeld.{AreLater, places-after_tick, has_a_place-after_tick, yielding_link-after_tick, has_a_place_without-after_tick, has_room-after_tick, link_of-after_tick, reservation_of-after_tick}
+use Rattle.rsl_rule.proofs.TickHeld.{AreLater, places-after_tick, has_a_place-after_tick, station_link-after_tick, yielding_link-after_tick, has_a_place_without-after_tick, has_room-after_tick, link_of-after_tick, reservation_of-after_tick}
 use Rattle.rsl_rule.proofs.TickKept.{accepts-after_tick, repeated-after_tick, is_closed-after_tick}
 
 module _ (rules : Rules) (moment : ℕ) (older : Past) (ruled : IsRuled rules older) where
+  -- a fresh ask to which no link of its station yields does what it did
+  placed-after_tick : (newer : Past) → AreLater moment newer → (event : Event) → moment ≤ event.moment
+      → placed_outcome rules (after_tick moment older newer) event ≡ shift_outcome (length older) (placed_outcome rules (newer ++ older) event)
+  unfolding placed_outcome shift_outcome
+  placed-after_tick newer later event at =
+      rw (has_a_place-after_tick rules moment older ruled newer later event at, yielding_link-after_tick rules moment older ruled newer later event at)
+      (by_place (has_a_place rules (newer ++ older) event) (yielding_link rules (newer ++ older) event)) where
+        without : (link : ℕ) (fits : Bool) → cond fits (AcceptedInPlace (accepts (newer ++ older)) (shift (length older) link)) Refused
+            ≡ shift_outcome (length older) (cond fits (AcceptedInPlace (accepts (newer ++ older)) link) Refused)
+        without link true = refl
+        without link false = refl
+
+        unfitting : (found : Option ℕ) → unfitting_outcome rules (after_tick moment older newer) event (option_map (shift (length older)) found)
+            ≡ shift_outcome (length older) (unfitting_outcome rules (newer ++ older) event found)
+        unfitting None = refl
+        unfitting (Some link) =
+            rw (has_a_place_without-after_tick rules moment older ruled newer later event at link, accepts-after_tick moment older newer)
+            (without link (has_a_place_without rules (newer ++ older) event link))
+
+        by_place : (free : Bool) (found : Option ℕ) → cond free (Accepted (accepts (after_tick moment older newer))) (unfitting_outcome rules (after_tick moment older newer) event (option_map (shift (length older)) found))
+            ≡ shift_outcome (length older) (cond free (Accepted (accepts (newer ++ older))) (unfitting_outcome rules (newer ++ older) event found))
+        by_place true found = ap Accepted (accepts-after_tick moment older newer)
+        by_place false found = unfitting found
+
   -- each later event does what it did
   outcome-after_tick : (newer : Past) → AreLater moment newer → (event : Event) → moment ≤ event.moment
       → outcome_of rules (after_tick moment older newer) event ≡ shift_outcome (length older) (outcome_of rules (newer ++ older) event)
   unfolding outcome_of fresh_outcome shift_outcome
   outcome-after_tick newer later event at = by_act event.act where
-    without : (link : ℕ) (fits : Bool) → cond fits (AcceptedInPlace (accepts (newer ++ older)) (shift (length older) link)) Refused
-        ≡ shift_outcome (length older) (cond fits (AcceptedInPlace (accepts (newer ++ older)) link) Refused)
-    without link true = refl
-    without link false = refl
+    in_place : (link : ℕ) (fits : Bool) → cond fits (AcceptedInPlace (accepts (newer ++ older)) (shift (length older) link)) (placed_outcome rules (after_tick moment older newer) event)
+        ≡ shift_outcome (length older) (cond fits (AcceptedInPlace (accepts (newer ++ older)) link) (placed_outcome rules (newer ++ older) event))
+    in_place link true = refl
+    in_place link false = placed-after_tick newer later event at
 
-    unfitting : (found : Option ℕ) → unfitting_outcome rules (after_tick moment older newer) event (option_map (shift (length older)) found)
-        ≡ shift_outcome (length older) (unfitting_outcome rules (newer ++ older) event found)
-    unfitting None = refl
-    unfitting (Some link) =
+    returning : (found : Option ℕ) → returning_outcome rules (after_tick moment older newer) event (option_map (shift (length older)) found)
+        ≡ shift_outcome (length older) (returning_outcome rules (newer ++ older) event found)
+    returning None = placed-after_tick newer later event at
+    returning (Some link) =
         rw (has_a_place_without-after_tick rules moment older ruled newer later event at link, accepts-after_tick moment older newer)
-        (without link (has_a_place_without rules (newer ++ older) event link))
-
-    by_place : (free : Bool) (found : Option ℕ) → cond free (Accepted (accepts (after_tick moment older newer))) (unfitting_outcome rules (after_tick moment older newer) event (option_map (shift (length older)) found))
-        ≡ shift_outcome (length older) (cond free (Accepted (accepts (newer ++ older))) (unfitting_outcome rules (newer ++ older) event found))
-    by_place true found = ap Accepted (accepts-after_tick moment older newer)
-    by_place false found = unfitting found
+        (in_place link (has_a_place_without rules (newer ++ older) event link))
 
     fresh : fresh_outcome rules (after_tick moment older newer) event ≡ shift_outcome (length older) (fresh_outcome rules (newer ++ older) event)
     fresh =
-        rw (has_a_place-after_tick rules moment older ruled newer later event at, yielding_link-after_tick rules moment older ruled newer later event at)
-        (by_place (has_a_place rules (newer ++ older) event) (yielding_link rules (newer ++ older) event))
+        rw (station_link-after_tick rules moment older ruled newer later event at) (returning (station_link rules (newer ++ older) event))
 
     numbered : (left : Bool) → cond left (fresh_outcome rules (after_tick moment older newer) event) Refused ≡ shift_outcome (length older) (cond left (fresh_outcome rules (newer ++ older) event) Refused)
     numbered true = fresh
@@ -90,12 +108,12 @@ module _ (rules : Rules) (moment : ℕ) (older : Past) (ruled : IsRuled rules ol
         (open_or_closed (is_closed rules (newer ++ older) event session) (reservation_of rules (newer ++ older) event session.nas class))
 
     by_act : (act : Act) → outcome_by rules (after_tick moment older newer) event act ≡ shift_outcome (length older) (outcome_by rules (newer ++ older) event act)
-    by_act (Ask key nas) = rw (repeated-after_tick rules moment older newer later event at key) (of_ask (repeated_ask rules (newer ++ older) event key))
-    by_act (Alive nas id bundle class) =
+    by_act (Ask key nas station) = rw (repeated-after_tick rules moment older newer later event at key) (of_ask (repeated_ask rules (newer ++ older) event key))
+    by_act (Alive nas id bundle class station) =
         let session : Session = record { nas = nas; id = id } in
         rw (link_of-after_tick rules moment older ruled newer later event at session) (of_alive session class (link_of rules (newer ++ older) event session))
     by_act (Stop nas id) = refl
-    by_act (Sweep nas) = refl
+    by_act (Sweep nas delay) = refl
     by_act Tick = refl
 
 decision-shift : (n : ℕ) (outcome : Outcome) → decision_of (shift_outcome n outcome) ≡ decision_of outcome

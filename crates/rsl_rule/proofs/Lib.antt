@@ -1,4 +1,5 @@
 pub mod Lists
+pub mod Since
 pub mod Looking
 pub mod Carried
 pub mod Standings
@@ -13,5 +14,8 @@ pub mod TickKept
 pub mod EarlyTick
 pub mod Lowest
 pub mod Yielded
+pub mod Filtered
+pub mod Returned
+pub mod Swept
 pub mod ClosedHeld
 pub mod Memory

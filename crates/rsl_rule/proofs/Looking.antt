@@ -13,9 +13,10 @@ use Rattle.rsl_session.specs.declared.session.Session.{Session}
 use Rattle.rsl_session.specs.declared.bundle.Bundle.{Bundle}
 use Rattle.rsl_session.specs.Past.{Past, looking_back, entry_at}
 use Rattle.rsl_session.specs.Clock.{clock}
-use Rattle.rsl_session.specs.Link.{number_of}
+use Rattle.rsl_session.specs.Link.{number_of, opened_at}
 use Rattle.rsl_session.specs.Binding.{touches, session_at, bound_by, bundle_at, bundled_by}
 use Rattle.rsl_session.specs.Touch.{touched_at}
+use Rattle.rsl_session.specs.Station.{station_at, stationed_by}
 use Rattle.rsl_rule.specs.Standing.{standing_of}
 use Rattle.rsl_rule.specs.declared.standing.Standing.{Standing}
 use Rattle.rsl_session.specs.Ask.{accepts}
@@ -55,18 +56,19 @@ pub ruleset clock_steps = (clock_none, clock_more, looking_back_all)
 pub standing_next : (link : ℕ) (xs : List PastEvent) (x : PastEvent)
     → standing_of link (x ∷ looking_back xs) ≡ record {
       clock = max (clock (looking_back xs)) x.event.moment;
+      opened = cond (eqb link (length xs + 1)) (max (clock (looking_back xs)) x.event.moment) (opened_at link (looking_back xs));
       touched = cond (touches link (length xs + 1) x.outcome) (max (clock (looking_back xs)) x.event.moment) (touched_at link (looking_back xs));
       session = option_or (session_at link (looking_back xs)) (bound_by link (length xs + 1) x);
     }
-unfolding standing_of clock touched_at session_at
+unfolding standing_of clock opened_at touched_at session_at
 standing_next link xs x = rw (length_all xs, add-one) refl
 
-pub standing_pushed : (link : ℕ) (xs : List PastEvent) (x : PastEvent) (before : Standing) (now touch : ℕ) (session : Option Session) → before ≡ standing_of link (looking_back xs)
-    → now ≡ max before.clock x.event.moment → touch ≡ cond (touches link (length xs + 1) x.outcome) now before.touched → session ≡ option_or before.session (bound_by link (length xs + 1) x)
-    → (let next : Standing = record { clock = now; touched = touch; session = session } in next) ≡ standing_of link (x ∷ looking_back xs)
+pub standing_pushed : (link : ℕ) (xs : List PastEvent) (x : PastEvent) (before : Standing) (now opening touch : ℕ) (session : Option Session) → before ≡ standing_of link (looking_back xs)
+    → now ≡ max before.clock x.event.moment → opening ≡ cond (eqb link (length xs + 1)) now before.opened → touch ≡ cond (touches link (length xs + 1) x.outcome) now before.touched → session ≡ option_or before.session (bound_by link (length xs + 1) x)
+    → (let next : Standing = record { clock = now; opened = opening; touched = touch; session = session } in next) ≡ standing_of link (x ∷ looking_back xs)
 unfolding standing_of
-standing_pushed link xs x before now touch session is at last found =
-    rw (last, at, found, is) (sym (standing_next link xs x))
+standing_pushed link xs x before now opening touch session is at first last found =
+    rw (last, first, at, found, is) (sym (standing_next link xs x))
 
 -- the entry of a number
 pub entry_at_none : (past : Past) → entry_at 0 past ≡ None
@@ -186,6 +188,24 @@ bundle_first link xs i x (Some bundle) within is before found some =
     ap (bundle_at link) (looking_back-split xs (i + 1)) ∙ bundle_stays link (looking_back (drop (i + 1) xs)) (looking_back (take (i + 1) xs)) bundle here
 
 pub ruleset bundle_steps = (bundle_none, bundle_next, bundle_first, looking_back_all)
+
+-- the station of a link
+pub station_none : (link : ℕ) → station_at link (looking_back []) ≡ None
+unfolding station_at
+station_none link = ap (station_at link) looking_back-none
+
+station_either : (one other : Option (Bor (List ℕ))) → option_copied (option_or one other) ≡ option_or (option_copied one) (option_copied other)
+station_either None other = refl
+station_either (Some one) other = refl
+
+pub station_more : (link : ℕ) (xs : List PastEvent) (i : ℕ) (x : PastEvent) (found before : Option (Bor (List ℕ))) → i < length xs → x ≡ get_or xs i x
+    → option_copied found ≡ stationed_by link (i + 1) x → option_copied before ≡ station_at link (looking_back (take i xs))
+    → option_copied (option_or found before) ≡ station_at link (looking_back (take (i + 1) xs))
+unfolding station_at
+station_more link xs i x found before within is here older =
+    station_either found before ∙ rw (here, older, looking_back-more xs i x within is, length-looking_back xs i (omega arith), add-one) refl
+
+pub ruleset station_steps = (station_none, station_more, looking_back_all)
 
 -- how many asks were accepted
 pub accepts_none : accepts (looking_back []) ≡ 0

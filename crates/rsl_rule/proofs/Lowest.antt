@@ -21,7 +21,7 @@ use Rattle.rsl_rule.proofs.Numbers.{accepts-cons, IsNext, IsNext-outcome_of}
 use Rattle.rsl_rule.proofs.Shift.{number_cons, number_later, number_nil}
 
 -- links stand in the order in which they opened
-IsAscending : List ℕ → Type 0
+pub IsAscending : List ℕ → Type 0
 IsAscending [] = ⊤
 IsAscending (x ∷ xs) = AllByRecursion (λ y. x ≤ y) xs × IsAscending xs
 
@@ -51,7 +51,7 @@ below_filter x p (y ∷ xs) all = by_cases (p y) (below_filter x p xs all.1) whe
   by_cases true rest = (all.0, rest)
   by_cases false rest = rest
 
-ascending_filter : (p : ℕ → Bool) (xs : List ℕ) → IsAscending xs → IsAscending (filter p xs)
+pub ascending_filter : (p : ℕ → Bool) (xs : List ℕ) → IsAscending xs → IsAscending (filter p xs)
 unfolding IsAscending
 ascending_filter p [] ascending = tt
 ascending_filter p (x ∷ xs) ascending = by_cases (p x) (ascending_filter p xs ascending.1) where
@@ -59,7 +59,7 @@ ascending_filter p (x ∷ xs) ascending = by_cases (p x) (ascending_filter p xs 
   by_cases true rest = (below_filter x p xs ascending.0, rest)
   by_cases false rest = rest
 
-held_before_ascends : (rules : Rules) (past : Past) (event : Event) → IsAscending (held_before rules past event)
+pub held_before_ascends : (rules : Rules) (past : Past) (event : Event) → IsAscending (held_before rules past event)
 unfolding held_links held_before
 held_before_ascends rules past event = ascending_filter _ _ (ascending_filter _ (links past) (links_ascend past))
 
@@ -81,6 +81,22 @@ found_in_order p q implies (x ∷ xs) a b ascending one other = by_cases (p x) (
   by_cases true false both one other rest = let same : x ≡ a = cc in omega (arith, found_above q x b xs ascending.0 other)
   by_cases false true both one other rest = let contradiction : false ≡ true = both refl in cc
   by_cases false false both one other rest = rest one other
+
+-- what is found is not after another that passes
+pub found_first : (p : ℕ → Bool) (xs : List ℕ) (a : ℕ) → IsAscending xs → find p xs ≡ Some a → AllByRecursion (λ y. p y ≡ true → a ≤ y) xs
+unfolding IsAscending
+found_first p [] a ascending found = tt
+found_first p (x ∷ xs) a ascending found = by_cases (p x) refl found (found_first p xs a ascending.1) where
+  passing : (ys : List ℕ) → AllByRecursion (λ y. x ≤ y) ys → AllByRecursion (λ y. p y ≡ true → x ≤ y) ys
+  passing [] all = tt
+  passing (y ∷ ys) all = ((λ is. all.0), passing ys all.1)
+
+  by_cases : (here : Bool) → p x ≡ here → cond here (Some x) (find p xs) ≡ Some a → (find p xs ≡ Some a → AllByRecursion (λ y. p y ≡ true → a ≤ y) xs)
+      → (p x ≡ true → a ≤ x) × AllByRecursion (λ y. p y ≡ true → a ≤ y) xs
+  by_cases true is found rest =
+      let same : x ≡ a = cc in
+      subst (λ n. (p x ≡ true → n ≤ x) × AllByRecursion (λ y. p y ≡ true → n ≤ y) xs) same ((λ passes. omega arith), passing xs ascending.0)
+  by_cases false is found rest = ((λ passes. let contradiction : false ≡ true = sym is ∙ passes in cc), rest found)
 
 pub found_passes : (p : ℕ → Bool) (xs : List ℕ) (a : ℕ) → find p xs ≡ Some a → p a ≡ true
 found_passes p [] a found = cc

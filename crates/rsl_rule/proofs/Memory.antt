@@ -1,5 +1,5 @@
 -- Where memory may be wanted: an account that has had no event holds no link, so there is nothing to look up.
-use Rattle.std.proofs.Common.{◌≡◌, ℕ, suc, ◌<◌, Bool, List, [], ◌∷◌, length, map, reverse, ap, sym, ◌∙◌, subst, arith}
+use Rattle.std.proofs.Common.{◌≡◌, ℕ, ◌<◌, Bool, List, [], ◌∷◌, length, map, ap, sym, ◌∙◌, subst, arith}
 use Rattle.std.specs.Prelude.{filter, Result, Ok, Err, OnErr}
 use Rattle.std.proofs.lemmas.List.{length-map, length-reverse}
 use Rattle.rsl_accounts.specs.declared.rules.Rules.{Rules}
@@ -12,7 +12,6 @@ use Rattle.rsl_session.specs.Rule.{past_of}
 use Rattle.rsl_rule.specs.declared.holding.HeldLink.{HeldLink}
 use Rattle.rsl_rule.specs.declared.holding.Holding.{Holding}
 use Rattle.rsl_rule.specs.Holding.{IsHolding, standings}
-use Rattle.rsl_rule.proofs.Standings.{numbers}
 use Rattle.rsl_rule.proofs.Whole.{events_of}
 
 some_held : (rules : Rules) (history : List PastEvent) → 0 < length (held_links rules (looking_back history)) → 0 < length history

@@ -15,7 +15,7 @@ use Rattle.rsl_session.specs.declared.kept.KeptAsk.{KeptAsk}
 use Rattle.rsl_session.specs.declared.session.Session.{Session}
 use Rattle.rsl_session.specs.Past.{Past}
 use Rattle.rsl_session.specs.Link.{number_of}
-use Rattle.rsl_session.specs.Ask.{accepts, ask_outcome, fresh_outcome, has_a_place, has_a_place_without, repeated_ask, unfitting_outcome, yielding_link}
+use Rattle.rsl_session.specs.Ask.{accepts, ask_outcome, fresh_outcome, has_a_place, has_a_place_without, placed_outcome, repeated_ask, returning_outcome, station_link, unfitting_outcome, yielding_link}
 use Rattle.rsl_session.specs.Alive.{alive_outcome, unbound_outcome, reservation_of, has_room}
 use Rattle.rsl_session.specs.Closed.{is_closed}
 use Rattle.rsl_session.specs.Rule.{IsRuled, outcome_of, outcome_by, past_of}
@@ -29,7 +29,7 @@ IsNext past (AcceptedInPlace number yielded) = number ≡ accepts past
 IsNext past _ = ⊤
 
 pub IsNext-outcome_of : (rules : Rules) (past : Past) (event : Event) → IsNext past (outcome_of rules past event)
-unfolding IsNext outcome_of fresh_outcome
+unfolding IsNext outcome_of fresh_outcome placed_outcome
 IsNext-outcome_of rules past event = by_act event.act where
   of_ask : (found : Option KeptAsk) → IsNext past (ask_outcome rules past event found)
   of_ask (Some ask) = tt
@@ -46,8 +46,19 @@ IsNext-outcome_of rules past event = by_act event.act where
     by_place true = refl
     by_place false = unfitting _
 
+    placed : IsNext past (placed_outcome rules past event)
+    placed = by_place (has_a_place rules past event)
+
+    in_place : (link : ℕ) (fits : Bool) → IsNext past (cond fits (AcceptedInPlace (accepts past) link) (placed_outcome rules past event))
+    in_place link true = refl
+    in_place link false = placed
+
+    returning : (found : Option ℕ) → IsNext past (returning_outcome rules past event found)
+    returning None = placed
+    returning (Some link) = in_place link (has_a_place_without rules past event link)
+
     numbered : (left : Bool) → IsNext past (cond left (fresh_outcome rules past event) Refused)
-    numbered true = by_place (has_a_place rules past event)
+    numbered true = returning (station_link rules past event)
     numbered false = tt
 
   unbound : (found : Option ℕ) → IsNext past (unbound_outcome rules past event found)
@@ -65,10 +76,10 @@ IsNext-outcome_of rules past event = by_act event.act where
     open_or_closed false = unbound _
 
   by_act : (act : Act) → IsNext past (outcome_by rules past event act)
-  by_act (Ask key nas) = of_ask (repeated_ask rules past event key)
-  by_act (Alive nas id bundle class) = of_alive _ class _
+  by_act (Ask key nas station) = of_ask (repeated_ask rules past event key)
+  by_act (Alive nas id bundle class station) = of_alive _ class _
   by_act (Stop nas id) = tt
-  by_act (Sweep nas) = tt
+  by_act (Sweep nas delay) = tt
   by_act Tick = tt
 
 pub accepts-cons : (entry : PastEvent) (past : Past) → accepts (entry ∷ past) ≡ cond (is_some (number_of entry.outcome)) 1 0 + accepts past

@@ -16,7 +16,7 @@ use Rattle.rsl_session.specs.declared.session.Session.{Session}
 use Rattle.rsl_session.specs.Past.{Past}
 use Rattle.rsl_session.specs.Same.{same_key}
 use Rattle.rsl_session.specs.Clock.{clock, clock_at}
-use Rattle.rsl_session.specs.Ask.{accepts, ask_outcome, fresh_outcome, has_a_place_without, unfitting_outcome, yielding_link, fresh_asks, fresh_decision, has_a_place, kept_ask, repeated_ask, repeats, KEPT_ASKS}
+use Rattle.rsl_session.specs.Ask.{accepts, ask_outcome, fresh_outcome, has_a_place_without, placed_outcome, returning_outcome, station_link, unfitting_outcome, yielding_link, fresh_asks, fresh_decision, has_a_place, kept_ask, repeated_ask, repeats, KEPT_ASKS}
 use Rattle.rsl_session.specs.Alive.{alive_outcome, unbound_outcome, reservation_of, has_room}
 use Rattle.rsl_session.specs.Closed.{is_closed}
 use Rattle.rsl_session.specs.Rule.{outcome_of, outcome_by}
@@ -30,36 +30,36 @@ any_later : (P : PastEvent → Type 0) (x : PastEvent) (xs : List PastEvent) →
 any_later P x xs (k, y, within, is, p) = (suc k, y, (omega arith), is, p)
 
 -- an ask that is kept was fresh
-kept_is : (now : ℕ) (since : List PastEvent) (entry : PastEvent) (act : Act) (decision : Option Decision) (ask : KeptAsk) → entry.event.act ≡ act → fresh_decision entry.outcome ≡ decision
+kept_is : (now : ℕ) (since : List (ℕ × Act)) (entry : PastEvent) (act : Act) (decision : Option Decision) (ask : KeptAsk) → entry.event.act ≡ act → fresh_decision entry.outcome ≡ decision
     → kept_ask now since act decision ≡ Some ask → IsFreshDecision (Some ask.key) ask.decision entry
-kept_is now since entry (Ask key nas) (Some decision) ask act fresh kept =
+kept_is now since entry (Ask key nas station) (Some decision) ask act fresh kept =
     let same : key ≡ ask.key = cc in
     let decided : decision ≡ ask.decision = cc in
     record { same_key = ap key_of act ∙ ap Some same; decided = fresh ∙ ap Some decided }
-kept_is now since entry (Ask key nas) None ask act fresh kept = cc
-kept_is now since entry (Alive nas session bundle class) (Some decision) ask act fresh kept = cc
-kept_is now since entry (Alive nas session bundle class) None ask act fresh kept = cc
+kept_is now since entry (Ask key nas station) None ask act fresh kept = cc
+kept_is now since entry (Alive nas session bundle class station) (Some decision) ask act fresh kept = cc
+kept_is now since entry (Alive nas session bundle class station) None ask act fresh kept = cc
 kept_is now since entry (Stop nas session) (Some decision) ask act fresh kept = cc
 kept_is now since entry (Stop nas session) None ask act fresh kept = cc
-kept_is now since entry (Sweep nas) (Some decision) ask act fresh kept = cc
-kept_is now since entry (Sweep nas) None ask act fresh kept = cc
+kept_is now since entry (Sweep nas delay) (Some decision) ask act fresh kept = cc
+kept_is now since entry (Sweep nas delay) None ask act fresh kept = cc
 kept_is now since entry Tick (Some decision) ask act fresh kept = cc
 kept_is now since entry Tick None ask act fresh kept = cc
 
 -- a kept ask that is found passes the test, and was fresh
-found_is : (p : KeptAsk → Bool) (n : ℕ) (since : List PastEvent) (past : Past) (ask : KeptAsk) → find p (take n (fresh_asks since past)) ≡ Some ask
+found_is : (p : KeptAsk → Bool) (n : ℕ) (since : List (ℕ × Act)) (past : Past) (ask : KeptAsk) → find p (take n (fresh_asks since past)) ≡ Some ask
     → (p ask ≡ true) × Any (IsFreshDecision (Some ask.key) ask.decision) past
 unfolding fresh_asks
 found_is p zero since [] ask found = cc
 found_is p (suc n) since [] ask found = cc
 found_is p n since (entry ∷ past) ask found =
-    by_cases n (kept_ask (clock (entry ∷ past)) since entry.event.act (fresh_decision entry.outcome)) refl found (λ m. found_is p m (entry ∷ since) past ask) where
+    by_cases n (kept_ask (clock (entry ∷ past)) since entry.event.act (fresh_decision entry.outcome)) refl found (λ m. found_is p m ((clock (entry ∷ past), entry.event.act) ∷ since) past ask) where
       later : (p ask ≡ true) × Any (IsFreshDecision (Some ask.key) ask.decision) past → (p ask ≡ true) × Any (IsFreshDecision (Some ask.key) ask.decision) (entry ∷ past)
       later both = (both.0, any_later (IsFreshDecision (Some ask.key) ask.decision) entry past both.1)
 
       here : (m : ℕ) (kept : KeptAsk) (test : Bool) → p kept ≡ test → kept_ask (clock (entry ∷ past)) since entry.event.act (fresh_decision entry.outcome) ≡ Some kept
-          → cond test (Some kept) (find p (take m (fresh_asks (entry ∷ since) past))) ≡ Some ask
-          → ((n : ℕ) → find p (take n (fresh_asks (entry ∷ since) past)) ≡ Some ask → (p ask ≡ true) × Any (IsFreshDecision (Some ask.key) ask.decision) past)
+          → cond test (Some kept) (find p (take m (fresh_asks ((clock (entry ∷ past), entry.event.act) ∷ since) past))) ≡ Some ask
+          → ((n : ℕ) → find p (take n (fresh_asks ((clock (entry ∷ past), entry.event.act) ∷ since) past)) ≡ Some ask → (p ask ≡ true) × Any (IsFreshDecision (Some ask.key) ask.decision) past)
           → (p ask ≡ true) × Any (IsFreshDecision (Some ask.key) ask.decision) (entry ∷ past)
       here m kept true passes is found rest =
           let same : kept ≡ ask = cc in
@@ -70,8 +70,8 @@ found_is p n since (entry ∷ past) ask found =
       here m kept false passes is found rest = later (rest m found)
 
       by_cases : (n : ℕ) (kept : Option KeptAsk) → kept_ask (clock (entry ∷ past)) since entry.event.act (fresh_decision entry.outcome) ≡ kept
-          → find p (take n (cons_option kept (fresh_asks (entry ∷ since) past))) ≡ Some ask
-          → ((n : ℕ) → find p (take n (fresh_asks (entry ∷ since) past)) ≡ Some ask → (p ask ≡ true) × Any (IsFreshDecision (Some ask.key) ask.decision) past)
+          → find p (take n (cons_option kept (fresh_asks ((clock (entry ∷ past), entry.event.act) ∷ since) past))) ≡ Some ask
+          → ((n : ℕ) → find p (take n (fresh_asks ((clock (entry ∷ past), entry.event.act) ∷ since) past)) ≡ Some ask → (p ask ≡ true) × Any (IsFreshDecision (Some ask.key) ask.decision) past)
           → (p ask ≡ true) × Any (IsFreshDecision (Some ask.key) ask.decision) (entry ∷ past)
       by_cases n None is found rest = later (rest n found)
       by_cases zero (Some kept) is found rest = cc
@@ -88,7 +88,7 @@ repeated_is rules past event key ask found =
     subst (λ (k : Key). Any (IsFreshDecision (Some k) ask.decision) past) same is.1
 
 pub repeats_are : (rules : Rules) (past : Past) (event : Event) (decision : Decision) → outcome_of rules past event ≡ Repeated decision → Any (IsFreshDecision (key_of event.act) decision) past
-unfolding outcome_of fresh_outcome
+unfolding outcome_of fresh_outcome placed_outcome
 repeats_are rules past event decision = by_act event.act where
   without : (link : ℕ) (fits : Bool) → cond fits (AcceptedInPlace (accepts past) link) Refused ≡ Repeated decision → ⊥
   without link true is = cc
@@ -102,8 +102,16 @@ repeats_are rules past event decision = by_act event.act where
   by_place true is = cc
   by_place false is = unfitting (yielding_link rules past event) is
 
+  in_place : (link : ℕ) (fits : Bool) → cond fits (AcceptedInPlace (accepts past) link) (placed_outcome rules past event) ≡ Repeated decision → ⊥
+  in_place link true is = cc
+  in_place link false is = by_place (has_a_place rules past event) is
+
+  returning : (found : Option ℕ) → returning_outcome rules past event found ≡ Repeated decision → ⊥
+  returning None is = by_place (has_a_place rules past event) is
+  returning (Some link) is = in_place link (has_a_place_without rules past event link) is
+
   numbered : (left : Bool) → cond left (fresh_outcome rules past event) Refused ≡ Repeated decision → ⊥
-  numbered true is = by_place (has_a_place rules past event) is
+  numbered true is = returning (station_link rules past event) is
   numbered false is = cc
 
   of_ask : (key : Key) (found : Option KeptAsk) → repeated_ask rules past event key ≡ found → ask_outcome rules past event found ≡ Repeated decision → Any (IsFreshDecision (Some key) decision) past
@@ -129,8 +137,8 @@ repeats_are rules past event decision = by_act event.act where
   of_alive session class None is = open_or_closed (is_closed rules past event session) (reservation_of rules past event session.nas class) is
 
   by_act : (act : Act) → outcome_by rules past event act ≡ Repeated decision → Any (IsFreshDecision (key_of act) decision) past
-  by_act (Ask key nas) is = of_ask key (repeated_ask rules past event key) refl is
-  by_act (Alive nas id bundle class) is = absurd (of_alive _ class _ is)
+  by_act (Ask key nas station) is = of_ask key (repeated_ask rules past event key) refl is
+  by_act (Alive nas id bundle class station) is = absurd (of_alive _ class _ is)
   by_act (Stop nas id) is = cc
-  by_act (Sweep nas) is = cc
+  by_act (Sweep nas delay) is = cc
   by_act Tick is = cc

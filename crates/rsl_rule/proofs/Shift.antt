@@ -18,13 +18,14 @@ use Rattle.rsl_session.specs.declared.session.Session.{Session}
 use Rattle.rsl_session.specs.declared.bundle.Bundle.{Bundle}
 use Rattle.rsl_session.specs.Past.{Past, entry_at}
 use Rattle.rsl_session.specs.Clock.{clock, clock_at}
-use Rattle.rsl_session.specs.Link.{links, opens, nas_of, nas_at, number_of, number_at}
+use Rattle.rsl_session.specs.Link.{links, opens, nas_of, nas_at, number_of, number_at, opened_at}
 use Rattle.rsl_session.specs.Binding.{binds, touches, bound_by, bundled_by, session_at, bundle_at, is_reserved, is_bound_to}
 use Rattle.rsl_session.specs.Touch.{touched_at}
+use Rattle.rsl_session.specs.Station.{is_of_station, station_at, stationed_by}
 use Rattle.rsl_session.specs.Lapse.{is_idle, lapses}
 use Rattle.rsl_session.specs.Held.{is_at, ended_by, yields}
 use Rattle.rsl_session.specs.Rule.{IsRuled}
-use Rattle.rsl_session.proofs.Callers.{bound-later, bundle_at-later, touched-later, is_in, is_in-true, links-in}
+use Rattle.rsl_session.proofs.Callers.{bound-later, bundle_at-later, touched-later, is_in, is_in-true, links-in, station_at-later}
 
 -- the new name of a link, where the tick has the number after n events
 pub shift : ℕ → ℕ → ℕ
@@ -256,6 +257,40 @@ number_at-after_tick moment older (entry ∷ newer) link =
     ∙ rw (length-after_tick moment older newer, eqb_next (length older) (suc (length (newer ++ older))) link (omega (arith, older-le older newer)), number_of-shift (length older) entry.outcome, number_at-after_tick moment older newer link) refl
     ∙ sym (number_cons link entry (newer ++ older))
 
+-- when a link opened
+opened_cons : (link : ℕ) (entry : PastEvent) (past : Past) → opened_at link (entry ∷ past) ≡ cond (eqb link (suc (length past))) (clock (entry ∷ past)) (opened_at link past)
+unfolding opened_at
+opened_cons link entry past = refl
+
+opened_later : (past : Past) (link : ℕ) → length past < link → opened_at link past ≡ 0
+unfolding opened_at
+opened_later [] link later = refl
+opened_later (entry ∷ past) link later =
+    rw (ne_eqb link (suc (length past)) (λ same. omega arith)) (opened_later past link (omega arith))
+
+pub opened-after_tick : (moment : ℕ) (older newer : Past) → AllByRecursion (λ (entry : PastEvent). moment ≤ entry.event.moment) newer → (link : ℕ)
+    → opened_at (shift (length older) link) (after_tick moment older newer) ≡ opened_at link (newer ++ older)
+unfolding after_tick shift_entry
+opened-after_tick moment older [] early link =
+    opened_cons (shift (length older) link) (tick_entry moment) older
+    ∙ by_cases link (cases_lt (length older) link)
+  where
+    by_cases : (link : ℕ) → (length older < link) ⊎ (link ≤ length older)
+        → cond (eqb (shift (length older) link) (suc (length older))) (clock (tick_entry moment ∷ older)) (opened_at (shift (length older) link) older) ≡ opened_at link older
+    by_cases link (inl new) =
+        rw (shift-new (length older) link new, ne_eqb (suc link) (suc (length older)) (λ same. omega arith)) (opened_later older (suc link) (omega arith) ∙ sym (opened_later older link new))
+    by_cases link (inr old) =
+        rw (shift-old (length older) link old, ne_eqb link (suc (length older)) (λ same. omega arith)) refl
+opened-after_tick moment older (entry ∷ newer) early link =
+    opened_cons (shift (length older) link) (shift_entry (length older) entry) (after_tick moment older newer)
+    ∙ rw (
+      clock_next moment older newer entry early.0,
+      length-after_tick moment older newer,
+      eqb_next (length older) (suc (length (newer ++ older))) link (omega (arith, older-le older newer)),
+      opened-after_tick moment older newer early.1 link,
+    ) refl
+    ∙ sym (opened_cons link entry (newer ++ older))
+
 -- the links
 map_same : (f : ℕ → ℕ) (t : ℕ → Bool) → ((x : ℕ) → t x ≡ true → f x ≡ x) → (xs : List ℕ) → list_all t xs ≡ true → map f xs ≡ xs
 map_same f t same [] all = refl
@@ -297,6 +332,17 @@ module _ (rules : Rules) (moment : ℕ) (older : Past) (ruled : IsRuled rules ol
   bundle_at-after_tick (entry ∷ newer) link =
       rw (bundle_at-after_tick newer link, length-after_tick moment older newer, touches-shift (length older) (suc (length (newer ++ older))) link entry.outcome (omega (arith, older-le older newer))) refl
 
+  pub station_at-after_tick : (newer : Past) (link : ℕ) → station_at (shift (length older) link) (after_tick moment older newer) ≡ station_at link (newer ++ older)
+  unfolding station_at stationed_by after_tick tick_entry shift_entry touches
+  station_at-after_tick [] link = shift_later (λ l. station_at l older) None (length older) link (λ later new. station_at-later rules older later ruled new)
+  station_at-after_tick (entry ∷ newer) link =
+      rw (station_at-after_tick newer link, length-after_tick moment older newer, touches-shift (length older) (suc (length (newer ++ older))) link entry.outcome (omega (arith, older-le older newer))) refl
+
+  pub is_of_station-after_tick : (newer : Past) (station : Option (List ℕ)) (link : ℕ)
+      → is_of_station (after_tick moment older newer) station (shift (length older) link) ≡ is_of_station (newer ++ older) station link
+  unfolding is_of_station
+  is_of_station-after_tick newer station link = rw (station_at-after_tick newer link) refl
+
   pub touched-after_tick : (newer : Past) → AllByRecursion (λ (entry : PastEvent). moment ≤ entry.event.moment) newer → (link : ℕ) → touched_at (shift (length older) link) (after_tick moment older newer) ≡ touched_at link (newer ++ older)
   unfolding touched_at after_tick tick_entry shift_entry touches
   touched-after_tick [] early link = shift_later (λ l. touched_at l older) 0 (length older) link (λ later new. touched-later rules older later ruled new)
@@ -332,10 +378,11 @@ module _ (rules : Rules) (moment : ℕ) (older : Past) (ruled : IsRuled rules ol
   unfolding is_at
   is_at-after_tick newer nas link = rw (nas_at-after_tick moment older newer link) refl
 
-  pub ended_by-after_tick : (newer : Past) (act : Act) (link : ℕ) → ended_by (after_tick moment older newer) act (shift (length older) link) ≡ ended_by (newer ++ older) act link
+  pub ended_by-after_tick : (newer : Past) → AllByRecursion (λ (entry : PastEvent). moment ≤ entry.event.moment) newer → (now : ℕ) (act : Act) (link : ℕ)
+      → ended_by (after_tick moment older newer) now act (shift (length older) link) ≡ ended_by (newer ++ older) now act link
   unfolding ended_by
-  ended_by-after_tick newer (Ask key nas) link = refl
-  ended_by-after_tick newer (Alive nas session bundle class) link = refl
-  ended_by-after_tick newer (Stop nas session) link = is_bound_to-after_tick newer (record { nas = nas; id = session }) link
-  ended_by-after_tick newer (Sweep nas) link = is_at-after_tick newer nas link
-  ended_by-after_tick newer Tick link = refl
+  ended_by-after_tick newer early now (Ask key nas station) link = refl
+  ended_by-after_tick newer early now (Alive nas session bundle class station) link = refl
+  ended_by-after_tick newer early now (Stop nas session) link = is_bound_to-after_tick newer (record { nas = nas; id = session }) link
+  ended_by-after_tick newer early now (Sweep nas delay) link = rw (is_at-after_tick newer nas link, opened-after_tick moment older newer early link) refl
+  ended_by-after_tick newer early now Tick link = refl

@@ -1,6 +1,6 @@
 -- What is asked of held links by how each stands, in the words of the definitions.
 use Rattle.std.proofs.Common.{◌≡◌, ℕ, List, [], ◌∷◌, ◌++◌, map, Bool, true, false, cond, ◌&&◌, ◌||◌, not, refl, ap, ◌∙◌}
-use Rattle.std.specs.Prelude.{◌==◌, Option, Some, None, filter, find, nat_le}
+use Rattle.std.specs.Prelude.{Option, Some, None, filter, find, nat_le}
 use Rattle.std.specs.List.{list_all}
 use Rattle.std.specs.Option.{option_map}
 use Rattle.rsl_accounts.specs.declared.rules.Rules.{Rules}
@@ -10,15 +10,20 @@ use Rattle.rsl_session.specs.declared.session.Session.{Session}
 use Rattle.rsl_session.specs.Past.{Past}
 use Rattle.rsl_session.specs.Clock.{clock_at}
 use Rattle.rsl_session.specs.Touch.{touched_at}
+use Rattle.rsl_session.specs.Station.{is_of_station, station_of}
 use Rattle.rsl_session.specs.Binding.{bundle_of, is_session, is_bound_to, is_reserved}
 use Rattle.rsl_session.specs.Held.{held_before}
 use Rattle.rsl_session.specs.Lapse.{is_idle}
 use Rattle.rsl_session.specs.declared.outcome.Outcome.TheVariants.{Accepted, AcceptedInPlace, Refused}
-use Rattle.rsl_session.specs.Ask.{accepts, fresh_outcome, has_a_place, has_a_place_without, has_place_beside, held_without, idle_links, is_touched_first, yielding_link}
+use Rattle.rsl_session.specs.declared.outcome.Outcome.{Outcome}
+use Rattle.rsl_session.specs.Ask.{accepts, first_touched, fresh_outcome, has_a_place, has_a_place_without, has_place_beside, held_without, idle_links, is_touched_first, placed_outcome, returning_outcome, station_link, station_links, unfitting_outcome, yielding_link}
 use Rattle.rsl_session.specs.declared.bundle.Bundle.{Bundle}
 use Rattle.rsl_session.specs.Places.{bundles, places_of}
 use Rattle.rsl_session.specs.Alive.{has_room, link_of, is_chosen, reservation_of}
-use Rattle.rsl_rule.specs.Standing.{standing_of, link_where, is_idle_so, is_first_so, is_yielding_so, can_be_taken_so}
+use Rattle.rsl_rule.specs.Standing.{standing_of, link_where, is_candidate_so, is_first_so, is_yielding_so, can_be_taken_so}
+use Rattle.rsl_rule.specs.Yielding.{making_room}
+use Rattle.rsl_rule.specs.declared.yielding.Candidates.{Candidates}
+use Rattle.rsl_rule.specs.declared.yielding.Candidates.TheVariants.{OfStation, Idle}
 use Rattle.rsl_rule.specs.Holding.{standings}
 use Rattle.rsl_rule.specs.declared.holding.HeldLink.{HeldLink}
 
@@ -66,67 +71,143 @@ taken rules past event nas class held is =
       same : (past : Past) (nas : Nas) (class : Option ℕ) (link : ℕ) → can_be_taken_so past nas class (so past link) ≡ is_chosen past nas class link
       same past nas class link = refl
 
--- the link that can yield
-find_idle : (past : Past) (idle test : ℕ → Bool) (so_test : HeldLink → Bool) → ((link : ℕ) → so_test (so past link) ≡ (idle link && test link)) → (links : List ℕ)
-    → link_where so_test (standings past links) ≡ find test (filter idle links)
+-- the candidate that can yield
+find_among : (past : Past) (among test : ℕ → Bool) (so_test : HeldLink → Bool) → ((link : ℕ) → so_test (so past link) ≡ (among link && test link)) → (links : List ℕ)
+    → link_where so_test (standings past links) ≡ find test (filter among links)
 unfolding standings so number
-find_idle past idle test so_test same [] = refl
-find_idle past idle test so_test same (link ∷ links) = by_cases (so_test (so past link)) (idle link) (test link) (same link) refl (find_idle past idle test so_test same links) where
-  by_cases : (a b c : Bool) → a ≡ (b && c) → test link ≡ c → link_where so_test (standings past links) ≡ find test (filter idle links)
-      → option_map number (cond a (Some (so past link)) (find so_test (standings past links))) ≡ find test (cond b (link ∷ filter idle links) (filter idle links))
+find_among past among test so_test same [] = refl
+find_among past among test so_test same (link ∷ links) = by_cases (so_test (so past link)) (among link) (test link) (same link) refl (find_among past among test so_test same links) where
+  by_cases : (a b c : Bool) → a ≡ (b && c) → test link ≡ c → link_where so_test (standings past links) ≡ find test (filter among links)
+      → option_map number (cond a (Some (so past link)) (find so_test (standings past links))) ≡ find test (cond b (link ∷ filter among links) (filter among links))
   by_cases a true c both is rest = rw (both, is) (last c) where
-    last : (c : Bool) → option_map number (cond c (Some (so past link)) (find so_test (standings past links))) ≡ cond c (Some link) (find test (filter idle links))
+    last : (c : Bool) → option_map number (cond c (Some (so past link)) (find so_test (standings past links))) ≡ cond c (Some link) (find test (filter among links))
     last true = refl
     last false = rest
   by_cases a false c both is rest = rw both rest
 
-all_idle : (past : Past) (idle test : ℕ → Bool) (so_test : HeldLink → Bool) → ((link : ℕ) → so_test (so past link) ≡ (not (idle link) || test link)) → (links : List ℕ)
-    → list_all so_test (standings past links) ≡ list_all test (filter idle links)
+all_among : (past : Past) (among test : ℕ → Bool) (so_test : HeldLink → Bool) → ((link : ℕ) → so_test (so past link) ≡ (test link || not (among link))) → (links : List ℕ)
+    → list_all so_test (standings past links) ≡ list_all test (filter among links)
 unfolding standings so
-all_idle past idle test so_test same [] = refl
-all_idle past idle test so_test same (link ∷ links) = by_cases (so_test (so past link)) (idle link) (same link) (all_idle past idle test so_test same links) where
-  by_cases : (a b : Bool) → a ≡ (not b || test link) → list_all so_test (standings past links) ≡ list_all test (filter idle links)
-      → (a && list_all so_test (standings past links)) ≡ list_all test (cond b (link ∷ filter idle links) (filter idle links))
-  by_cases a true both rest = rw (both, rest) refl
-  by_cases a false both rest = rw both rest
+all_among past among test so_test same [] = refl
+all_among past among test so_test same (link ∷ links) = by_cases (so_test (so past link)) (among link) (test link) (same link) refl (all_among past among test so_test same links) where
+  by_cases : (a b c : Bool) → a ≡ (c || not b) → test link ≡ c → list_all so_test (standings past links) ≡ list_all test (filter among links)
+      → (a && list_all so_test (standings past links)) ≡ list_all test (cond b (link ∷ filter among links) (filter among links))
+  by_cases a true true both is rest = rw (both, is) rest
+  by_cases a true false both is rest = rw (both, is) refl
+  by_cases a false true both is rest = rw both rest
+  by_cases a false false both is rest = rw both rest
 
-first_so : (rules : Rules) (past : Past) (event : Event) (links : List ℕ) (link : ℕ)
-    → is_first_so rules event (standings past links) (touched_at link past) ≡ is_touched_first past (filter (is_idle rules past event) links) link
-unfolding is_touched_first so standing_of is_idle clock_at
-first_so rules past event links link =
-    all_idle past (is_idle rules past event) (λ other. nat_le (touched_at link past) (touched_at other past))
-    (λ (other : HeldLink). not (is_idle_so rules event other.standing) || nat_le (touched_at link past) other.standing.touched) (λ other. refl) links
+-- whether a link is one of the candidates when an event comes
+abbrev pub is_candidate : Rules → Past → Event → Candidates → ℕ → Bool
+is_candidate rules past event OfStation link = is_of_station past (station_of event.act) link
+is_candidate rules past event Idle link = is_idle rules past event link
 
-pub yielding : (rules : Rules) (past : Past) (event : Event) (held : List HeldLink) → held ≡ standings past (held_before rules past event)
-    → link_where (is_yielding_so rules event held) held ≡ yielding_link rules past event
-unfolding yielding_link idle_links so standing_of is_idle clock_at
-yielding rules past event held is =
-    ap (λ (xs : List HeldLink). link_where (is_yielding_so rules event xs) xs) is
-    ∙ find_idle past (is_idle rules past event) (is_touched_first past (filter (is_idle rules past event) (held_before rules past event)))
-    (is_yielding_so rules event (standings past (held_before rules past event))) same (held_before rules past event) where
-      same : (link : ℕ) → is_yielding_so rules event (standings past (held_before rules past event)) (so past link)
-          ≡ (is_idle rules past event link && is_touched_first past (filter (is_idle rules past event) (held_before rules past event)) link)
-      same link = ap (λ first. is_idle rules past event link && first) (first_so rules past event (held_before rules past event) link)
+candidate_so : (rules : Rules) (past : Past) (event : Event) (candidates : Candidates) (link : ℕ)
+    → is_candidate_so rules past event candidates (so past link) ≡ is_candidate rules past event candidates link
+unfolding so standing_of is_idle clock_at
+candidate_so rules past event OfStation link = refl
+candidate_so rules past event Idle link = refl
 
--- what a fresh ask does, by what was looked up
+first_so : (rules : Rules) (past : Past) (event : Event) (candidates : Candidates) (links : List ℕ) (link : ℕ)
+    → is_first_so rules past event candidates (standings past links) (touched_at link past) ≡ is_touched_first past (filter (is_candidate rules past event candidates) links) link
+unfolding is_touched_first so standing_of
+first_so rules past event candidates links link =
+    all_among past (is_candidate rules past event candidates) (λ other. nat_le (touched_at link past) (touched_at other past))
+    (λ (other : HeldLink). nat_le (touched_at link past) other.standing.touched || not (is_candidate_so rules past event candidates other)) same links where
+      same : (other : ℕ) → (nat_le (touched_at link past) (so past other).standing.touched || not (is_candidate_so rules past event candidates (so past other)))
+          ≡ (nat_le (touched_at link past) (touched_at other past) || not (is_candidate rules past event candidates other))
+      same other = ap (λ is. nat_le (touched_at link past) (touched_at other past) || not is) (candidate_so rules past event candidates other)
+
+yielding : (rules : Rules) (past : Past) (event : Event) (candidates : Candidates) (held : List HeldLink) → held ≡ standings past (held_before rules past event)
+    → link_where (is_yielding_so rules past event candidates held) held ≡ first_touched past (filter (is_candidate rules past event candidates) (held_before rules past event))
+unfolding first_touched so standing_of
+yielding rules past event candidates held is =
+    ap (λ (xs : List HeldLink). link_where (is_yielding_so rules past event candidates xs) xs) is
+    ∙ find_among past (is_candidate rules past event candidates) (is_touched_first past (filter (is_candidate rules past event candidates) (held_before rules past event)))
+    (is_yielding_so rules past event candidates (standings past (held_before rules past event))) same (held_before rules past event) where
+      same : (link : ℕ) → is_yielding_so rules past event candidates (standings past (held_before rules past event)) (so past link)
+          ≡ (is_candidate rules past event candidates link && is_touched_first past (filter (is_candidate rules past event candidates) (held_before rules past event)) link)
+      same link = rw (candidate_so rules past event candidates link, first_so rules past event candidates (held_before rules past event) link) refl
+
+-- it is the link of the station that asks, or the idle one
+pub returning : (rules : Rules) (past : Past) (event : Event) (held : List HeldLink) → held ≡ standings past (held_before rules past event)
+    → link_where (is_yielding_so rules past event OfStation held) held ≡ station_link rules past event
+unfolding station_link station_links
+returning rules past event held is = yielding rules past event OfStation held is
+
+pub idling : (rules : Rules) (past : Past) (event : Event) (held : List HeldLink) → held ≡ standings past (held_before rules past event)
+    → link_where (is_yielding_so rules past event Idle held) held ≡ yielding_link rules past event
+unfolding yielding_link idle_links
+idling rules past event held is = yielding rules past event Idle held is
+
+-- the numbers of the links that are still held, and the link of them that makes room, by what was looked up
+pub held_numbers : (rules : Rules) (past : Past) (event : Event) (held : List HeldLink) (links : List ℕ) → held ≡ standings past (held_before rules past event)
+    → links ≡ map (λ (one : HeldLink). one.link) held → links ≡ held_before rules past event
+held_numbers rules past event held links is each =
+    each ∙ ap (map (λ (one : HeldLink). one.link)) is ∙ numbers past (held_before rules past event)
+
+pub room_found : (rules : Rules) (past : Past) (event : Event) (links : List ℕ) (candidate known yielded : Option ℕ) → links ≡ held_before rules past event
+    → candidate ≡ known → yielded ≡ making_room rules past links candidate → yielded ≡ making_room rules past (held_before rules past event) known
+room_found rules past event links candidate known yielded held same found =
+    found ∙ ap (λ (ls : List ℕ). making_room rules past ls candidate) held ∙ ap (making_room rules past (held_before rules past event)) same
+
+-- what a fresh ask does, by the link of its station that makes room, whether a place is free, and the
+-- idle link that makes room
+by_room : ℕ → Option ℕ → Bool → Option ℕ → Outcome
+by_room number (Some link) free idle = AcceptedInPlace number link
+by_room number None true idle = Accepted number
+by_room number None false (Some link) = AcceptedInPlace number link
+by_room number None false None = Refused
+
 module _ (rules : Rules) (past : Past) (event : Event) (number : ℕ) (next : number ≡ accepts past) where
-  pub fits : has_a_place rules past event ≡ true → Accepted number ≡ fresh_outcome rules past event
-  unfolding fresh_outcome
-  fits free = rw (free, next) refl
+  -- the link that makes room, of the one that can yield
+  abbrev room_by : Option ℕ → Option ℕ
+  room_by candidate = making_room rules past (held_before rules past event) candidate
 
-  pub fits_nowhere : has_a_place rules past event ≡ false → yielding_link rules past event ≡ None → Refused ≡ fresh_outcome rules past event
-  unfolding fresh_outcome
-  fits_nowhere free none = rw (free, none) refl
+  unfitting : (candidate : Option ℕ) → by_room number None false (room_by candidate) ≡ unfitting_outcome rules past event candidate
+  unfolding by_room has_a_place_without held_without
+  unfitting None = refl
+  unfitting (Some link) = by_cases (has_a_place_without rules past event link) where
+    by_cases : (fits : Bool) → by_room number None false (cond fits (Some link) None) ≡ cond fits (AcceptedInPlace (accepts past) link) Refused
+    by_cases true = ap (λ n. AcceptedInPlace n link) next
+    by_cases false = refl
 
-  pub fits_in_place : (link : ℕ) → has_a_place rules past event ≡ false → yielding_link rules past event ≡ Some link → has_a_place_without rules past event link ≡ true
+  placed : (free : Bool) (candidate : Option ℕ) → by_room number None free (room_by candidate) ≡ cond free (Accepted (accepts past)) (unfitting_outcome rules past event candidate)
+  unfolding by_room
+  placed true candidate = ap Accepted next
+  placed false candidate = unfitting candidate
+
+  returned : (candidate : Option ℕ) → by_room number (room_by candidate) (has_a_place rules past event) (room_by (yielding_link rules past event)) ≡ returning_outcome rules past event candidate
+  unfolding by_room placed_outcome has_a_place_without held_without
+  returned None = placed (has_a_place rules past event) (yielding_link rules past event)
+  returned (Some link) = by_cases (has_a_place_without rules past event link) where
+    by_cases : (fits : Bool) → by_room number (cond fits (Some link) None) (has_a_place rules past event) (room_by (yielding_link rules past event))
+        ≡ cond fits (AcceptedInPlace (accepts past) link) (placed_outcome rules past event)
+    by_cases true = ap (λ n. AcceptedInPlace n link) next
+    by_cases false = placed (has_a_place rules past event) (yielding_link rules past event)
+
+  decided : (returns : Option ℕ) (free : Bool) (idle : Option ℕ) → returns ≡ room_by (station_link rules past event) → free ≡ has_a_place rules past event → idle ≡ room_by (yielding_link rules past event)
+      → by_room number returns free idle ≡ fresh_outcome rules past event
+  unfolding fresh_outcome
+  decided returns free idle first place last = rw (first, place, last) (returned (station_link rules past event))
+
+  pub fits_returning : (link : ℕ) → Some link ≡ room_by (station_link rules past event) → AcceptedInPlace number link ≡ fresh_outcome rules past event
+  unfolding by_room
+  fits_returning link first = decided (Some link) (has_a_place rules past event) (room_by (yielding_link rules past event)) first refl refl
+
+  pub fits : None ≡ room_by (station_link rules past event) → true ≡ has_a_place rules past event → Accepted number ≡ fresh_outcome rules past event
+  unfolding by_room
+  fits first place = decided None true (room_by (yielding_link rules past event)) first place refl
+
+  pub fits_in_place : (link : ℕ) → None ≡ room_by (station_link rules past event) → false ≡ has_a_place rules past event → Some link ≡ room_by (yielding_link rules past event)
       → AcceptedInPlace number link ≡ fresh_outcome rules past event
-  unfolding fresh_outcome
-  fits_in_place link free some without = rw (free, some, without, next) refl
+  unfolding by_room
+  fits_in_place link first place last = decided None false (Some link) first place last
 
-  pub fits_not_even : (link : ℕ) → has_a_place rules past event ≡ false → yielding_link rules past event ≡ Some link → has_a_place_without rules past event link ≡ false
+  pub fits_nowhere : None ≡ room_by (station_link rules past event) → false ≡ has_a_place rules past event → None ≡ room_by (yielding_link rules past event)
       → Refused ≡ fresh_outcome rules past event
-  unfolding fresh_outcome
-  fits_not_even link free some without = rw (free, some, without) refl
+  unfolding by_room
+  fits_nowhere first place last = decided None false None first place last
 
 -- whether one more link with the event's bundle can open, by what was looked up
 pub room : (rules : Rules) (past : Past) (event : Event) (links : List ℕ) (each : List (Option Bundle)) (places : ℕ) → links ≡ held_before rules past event
@@ -139,8 +220,3 @@ pub free_now : (rules : Rules) (past : Past) (event : Event) (links : List ℕ) 
     → free ≡ has_a_place rules past event
 unfolding has_a_place
 free_now rules past event links free held is = is ∙ ap (has_place_beside rules past) held
-
-pub free_without : (rules : Rules) (past : Past) (event : Event) (link : ℕ) (links : List ℕ) (free : Bool) → links ≡ filter (λ other. not (other == link)) (held_before rules past event)
-    → free ≡ has_place_beside rules past links → free ≡ has_a_place_without rules past event link
-unfolding has_a_place_without held_without
-free_without rules past event link links free held is = is ∙ ap (has_place_beside rules past) held

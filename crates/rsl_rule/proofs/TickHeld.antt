@@ -17,11 +17,12 @@ use Rattle.rsl_session.specs.Binding.{is_bound_to}
 use Rattle.rsl_session.specs.Lapse.{is_idle, lapses}
 use Rattle.rsl_session.specs.Held.{ended_by, ends, is_freed, held_links, held_before, yields}
 use Rattle.rsl_session.specs.Places.{bundles, places, places_of}
-use Rattle.rsl_session.specs.Ask.{held_without, has_place_beside, has_a_place_without, idle_links, is_touched_first, yielding_link, has_a_place}
+use Rattle.rsl_session.specs.Station.{is_of_station, station_of}
+use Rattle.rsl_session.specs.Ask.{first_touched, held_without, has_place_beside, has_a_place_without, idle_links, is_touched_first, station_link, station_links, yielding_link, has_a_place}
 use Rattle.rsl_session.specs.Alive.{has_room, is_chosen, link_of, reservation_of}
 use Rattle.rsl_session.specs.Rule.{IsRuled}
 use Rattle.rsl_session.proofs.Callers.{is_in, is_in-true, links-in, freed_later, freed_older, filter-filter, any_link, list_all_any, not-or}
-use Rattle.rsl_rule.proofs.Shift.{touched-after_tick, yields-shift, is_idle-after_tick, eqb-shift, shift, shift-old, shift-new, shift_outcome, shift_entry, tick_event, tick_entry, after_tick, length-after_tick, older-le, number_at-after_tick, links-after_tick, bundle_at-after_tick, lapses-after_tick, is_bound_to-after_tick, is_reserved-after_tick, is_at-after_tick, ended_by-after_tick}
+use Rattle.rsl_rule.proofs.Shift.{touched-after_tick, yields-shift, is_idle-after_tick, eqb-shift, shift, shift-old, shift-new, shift_outcome, shift_entry, tick_event, tick_entry, after_tick, clock_at-after_tick, is_of_station-after_tick, length-after_tick, older-le, number_at-after_tick, links-after_tick, bundle_at-after_tick, lapses-after_tick, is_bound_to-after_tick, is_reserved-after_tick, is_at-after_tick, ended_by-after_tick}
 
 -- each of some entries has a moment that is not before the tick's
 abbrev pub AreLater : ℕ → Past → Type 0
@@ -90,12 +91,19 @@ shift_within n k link within =
     ]
 
 module _ (rules : Rules) (moment : ℕ) (older : Past) (ruled : IsRuled rules older) where
+  -- an event ends a link where it does without the tick
+  ended_alike : (newer : Past) → AreLater moment newer → (event : Event) → moment ≤ event.moment → (link : ℕ)
+      → ended_by (after_tick moment older newer) (clock_at (after_tick moment older newer) event) event.act (shift (length older) link) ≡ ended_by (newer ++ older) (clock_at (newer ++ older) event) event.act link
+  ended_alike newer later event at link =
+      ap (λ now. ended_by (after_tick moment older newer) now event.act (shift (length older) link)) (clock_at-after_tick moment older newer event at)
+      ∙ ended_by-after_tick rules moment older ruled newer later (clock_at (newer ++ older) event) event.act link
+
   -- after the next event a link has ended where it has without the tick
-  pub freed-after_next : (newer : Past) (entry : PastEvent) (link : ℕ) → link ≤ suc (length (newer ++ older))
+  pub freed-after_next : (newer : Past) (entry : PastEvent) → AreLater moment newer → moment ≤ entry.event.moment → (link : ℕ) → link ≤ suc (length (newer ++ older))
       → (link ≤ length (newer ++ older) → gone rules (after_tick moment older newer) entry.event (shift (length older) link) ≡ gone rules (newer ++ older) entry.event link)
       → is_freed rules (shift (length older) link) (shift_entry (length older) entry ∷ after_tick moment older newer) ≡ is_freed rules link (entry ∷ newer ++ older)
   unfolding gone shift_entry ends
-  freed-after_next newer entry link within same =
+  freed-after_next newer entry later at link within same =
       elim (cases_lt (length (newer ++ older)) link) [
         | inl new ↦
             let here : link ≡ suc (length (newer ++ older)) = omega arith in
@@ -107,9 +115,9 @@ module _ (rules : Rules) (moment : ℕ) (older : Past) (ruled : IsRuled rules ol
             freed_older rules (shift_entry (length older) entry) (after_tick moment older newer) (shift (length older) link)
             (omega (arith, length-after_tick moment older newer, shift_within (length older) (length (newer ++ older)) link old))
             ∙ or_assoc (is_freed rules (shift (length older) link) (after_tick moment older newer)) (lapses rules (after_tick moment older newer) entry.event (shift (length older) link))
-            (ended_by (after_tick moment older newer) entry.event.act (shift (length older) link)) (yields (shift (length older) link) (shift_outcome (length older) entry.outcome))
-            ∙ both (same old) (both (ended_by-after_tick rules moment older ruled newer entry.event.act link) (yields-shift (length older) link entry.outcome))
-            ∙ sym (or_assoc (is_freed rules link (newer ++ older)) (lapses rules (newer ++ older) entry.event link) (ended_by (newer ++ older) entry.event.act link) (yields link entry.outcome))
+            (ended_by (after_tick moment older newer) (clock_at (after_tick moment older newer) entry.event) entry.event.act (shift (length older) link)) (yields (shift (length older) link) (shift_outcome (length older) entry.outcome))
+            ∙ both (same old) (both (ended_alike newer later entry.event at link) (yields-shift (length older) link entry.outcome))
+            ∙ sym (or_assoc (is_freed rules link (newer ++ older)) (lapses rules (newer ++ older) entry.event link) (ended_by (newer ++ older) (clock_at (newer ++ older) entry.event) entry.event.act link) (yields link entry.outcome))
             ∙ sym (freed_older rules entry (newer ++ older) link old)
       ]
 
@@ -120,7 +128,7 @@ module _ (rules : Rules) (moment : ℕ) (older : Past) (ruled : IsRuled rules ol
       rw (lapses-after_tick rules moment older ruled [] later event at link, shift-old (length older) link within, freed_older rules (tick_entry moment) older link within)
       (or_moved (is_freed rules link older) (lapses rules older (tick_event moment) link) (lapses rules older event link) (lapses_sooner rules older moment event link at))
   gone-after_tick (entry ∷ newer) later event at link within =
-      rw (freed-after_next newer entry link within (gone-after_tick newer later.1 entry.event later.0 link), lapses-after_tick rules moment older ruled (entry ∷ newer) later event at link) refl
+      rw (freed-after_next newer entry later.1 later.0 link within (gone-after_tick newer later.1 entry.event later.0 link), lapses-after_tick rules moment older ruled (entry ∷ newer) later event at link) refl
 
   pub not_gone : (newer : Past) → AreLater moment newer → (event : Event) → moment ≤ event.moment → (link : ℕ) → is_in (newer ++ older) link ≡ true
       → not (gone rules (after_tick moment older newer) event (shift (length older) link)) ≡ not (gone rules (newer ++ older) event link)
@@ -139,7 +147,7 @@ module _ (rules : Rules) (moment : ℕ) (older : Past) (ruled : IsRuled rules ol
       → not (is_freed rules (shift (length older) link) (after_tick moment older (entry ∷ newer))) ≡ not (is_freed rules link (entry ∷ newer ++ older))
   unfolding after_tick
   not_freed newer entry later at link within =
-      ap not (freed-after_next newer entry link (is_in-true (entry ∷ newer ++ older) link within) (gone-after_tick newer later entry.event at link))
+      ap not (freed-after_next newer entry later at link (is_in-true (entry ∷ newer ++ older) link within) (gone-after_tick newer later entry.event at link))
 
   pub held-after_tick : (newer : Past) (entry : PastEvent) → AreLater moment newer → moment ≤ entry.event.moment
       → held_links rules (after_tick moment older (entry ∷ newer)) ≡ map (shift (length older)) (held_links rules (entry ∷ newer ++ older))
@@ -174,7 +182,7 @@ module _ (rules : Rules) (moment : ℕ) (older : Past) (ruled : IsRuled rules ol
   has_a_place-after_tick newer later event at =
       rw (held_before-after_tick newer later event at) (has_place_beside-after_tick newer (held_before rules (newer ++ older) event))
 
-  -- the link that can yield, and whether a place is free without it
+  -- the links that can yield, and whether a place is free without one
   pub idle_links-after_tick : (newer : Past) → AreLater moment newer → (event : Event) → moment ≤ event.moment
       → idle_links rules (after_tick moment older newer) event ≡ map (shift (length older)) (idle_links rules (newer ++ older) event)
   unfolding idle_links
@@ -192,14 +200,32 @@ module _ (rules : Rules) (moment : ℕ) (older : Past) (ruled : IsRuled rules ol
       (rw (touched-after_tick rules moment older ruled newer later link, touched-after_tick rules moment older ruled newer later other) refl)
       (is_touched_first-after_tick newer later some link)
 
+  first_touched-after_tick : (newer : Past) → AreLater moment newer → (some : List ℕ)
+      → first_touched (after_tick moment older newer) (map (shift (length older)) some) ≡ option_map (shift (length older)) (first_touched (newer ++ older) some)
+  unfolding first_touched
+  first_touched-after_tick newer later some =
+      find-map (shift (length older)) (is_touched_first (after_tick moment older newer) (map (shift (length older)) some)) (is_touched_first (newer ++ older) some)
+      (is_touched_first-after_tick newer later some) some
+
   pub yielding_link-after_tick : (newer : Past) → AreLater moment newer → (event : Event) → moment ≤ event.moment
       → yielding_link rules (after_tick moment older newer) event ≡ option_map (shift (length older)) (yielding_link rules (newer ++ older) event)
   unfolding yielding_link
   yielding_link-after_tick newer later event at =
-      rw (idle_links-after_tick newer later event at)
-      (find-map (shift (length older)) (is_touched_first (after_tick moment older newer) (map (shift (length older)) (idle_links rules (newer ++ older) event)))
-      (is_touched_first (newer ++ older) (idle_links rules (newer ++ older) event))
-      (is_touched_first-after_tick newer later (idle_links rules (newer ++ older) event)) (idle_links rules (newer ++ older) event))
+      rw (idle_links-after_tick newer later event at) (first_touched-after_tick newer later (idle_links rules (newer ++ older) event))
+
+  pub station_links-after_tick : (newer : Past) → AreLater moment newer → (event : Event) → moment ≤ event.moment
+      → station_links rules (after_tick moment older newer) event ≡ map (shift (length older)) (station_links rules (newer ++ older) event)
+  unfolding station_links
+  station_links-after_tick newer later event at =
+      ap (filter (is_of_station (after_tick moment older newer) (station_of event.act))) (held_before-after_tick newer later event at)
+      ∙ filter-map (shift (length older)) (is_of_station (after_tick moment older newer) (station_of event.act)) (is_of_station (newer ++ older) (station_of event.act)) any_link
+      (λ link h. is_of_station-after_tick rules moment older ruled newer (station_of event.act) link) (held_before rules (newer ++ older) event) (list_all_any (held_before rules (newer ++ older) event))
+
+  pub station_link-after_tick : (newer : Past) → AreLater moment newer → (event : Event) → moment ≤ event.moment
+      → station_link rules (after_tick moment older newer) event ≡ option_map (shift (length older)) (station_link rules (newer ++ older) event)
+  unfolding station_link
+  station_link-after_tick newer later event at =
+      rw (station_links-after_tick newer later event at) (first_touched-after_tick newer later (station_links rules (newer ++ older) event))
 
   pub held_without-after_tick : (newer : Past) → AreLater moment newer → (event : Event) → moment ≤ event.moment → (link : ℕ)
       → held_without rules (after_tick moment older newer) event (shift (length older) link) ≡ map (shift (length older)) (held_without rules (newer ++ older) event link)

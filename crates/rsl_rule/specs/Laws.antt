@@ -1,10 +1,10 @@
 -- Laws of the session rule, each the contract of a function of `laws`.
-use Rattle.std.specs.Prelude.{◌≡◌, ℕ, suc, ◌<◌, ◌≤◌, List, [], ◌∷◌, ◌++◌, length, take, drop, map, reverse, insert, true, slice_index, All, Any, EachIndex, Option, Some, None}
+use Rattle.std.specs.Prelude.{◌≡◌, ℕ, suc, ◌-◌, ◌^◌, ◌<◌, ◌≤◌, List, [], ◌∷◌, ◌++◌, length, take, drop, map, reverse, insert, true, slice_index, All, Any, EachIndex, Option, Some, None}
 use Rattle.std.specs.Option.{option_to_list}
 use Rattle.rsl_accounts.specs.Limits.{RulesFit}
 use Rattle.rsl_accounts.specs.declared.rules.Rules.{Rules}
 use Rattle.rsl_event.specs.declared.event.Act.{Act}
-use Rattle.rsl_event.specs.declared.event.Act.TheVariants.{Ask, Tick}
+use Rattle.rsl_event.specs.declared.event.Act.TheVariants.{Ask, Sweep, Tick}
 use Rattle.rsl_event.specs.declared.event.Decision.{Decision}
 use Rattle.rsl_event.specs.declared.event.Decision.TheVariants.{Done}
 use Rattle.rsl_event.specs.declared.event.Event.{Event}
@@ -16,9 +16,10 @@ use Rattle.rsl_session.specs.Past.{Past}
 use Rattle.rsl_session.specs.declared.session.Session.{Session}
 use Rattle.rsl_session.specs.Closed.{is_closed}
 use Rattle.rsl_session.specs.Alive.{link_of, reservation_of}
-use Rattle.rsl_session.specs.Ask.{fresh_decision}
+use Rattle.rsl_session.specs.Ask.{accepts, fresh_decision}
 use Rattle.rsl_session.specs.Link.{number_at, number_of}
-use Rattle.rsl_rule.specs.Yielding.{HasYielded}
+use Rattle.rsl_rule.specs.Sweeping.{HasSwept}
+use Rattle.rsl_rule.specs.Yielding.{FindsItsPlace, HasYielded, IsFreshAsk}
 use Rattle.rsl_session.specs.Rule.{IsRuled, decisions, outcome_of, past_of, places_after}
 
 -- after each event of a list, the places are at most the account's
@@ -47,14 +48,30 @@ LowestReservationIsTaken =
     → number_at link (past_of rules events) ≡ Some a
     → reservation_of rules (past_of rules events) event nas (Some b) ≡ Some other → a ≤ b
 
--- a link that yields to an event was stale, no stale link was touched before it, and the places
--- after the event are at most the account's
-abbrev pub StaleLinksYield : Type 0
-StaleLinksYield =
+-- a link that yields to an event was of the station that asks, or stale where no place was free; no
+-- other such link was touched before it, and of those touched when it was it opened first; and the
+-- places after the event are at most the account's
+abbrev pub LinksYieldInTurn : Type 0
+LinksYieldInTurn =
     (rules : Rules) (events : List Event) (event : Event) (number link : ℕ) → RulesFit rules
     → outcome_of rules (past_of rules events) event ≡ AcceptedInPlace number link
     → HasYielded rules (past_of rules events) event link
     × (places_after rules (events ++ event ∷ []) ≤ rules.places)
+
+-- a fresh ask, while accept numbers are left, ends the link of its station that is first in turn, if
+-- the others leave a place; else, as without a station, the free places and the idle links decide
+abbrev pub StationsFindTheirPlace : Type 0
+StationsFindTheirPlace = (rules : Rules) (events : List Event) (event : Event)
+    → IsFreshAsk rules (past_of rules events) event
+    → accepts (past_of rules events) < 2 ^ 64 - 1
+    → FindsItsPlace rules (past_of rules events) event
+
+-- after a sweep exactly those links are held that were held as it came and are at another access
+-- server, or opened less than its delay ago; so without a delay none at its own
+abbrev pub LateRestartsSpareWhatIsNewer : Type 0
+LateRestartsSpareWhatIsNewer =
+    (rules : Rules) (events : List Event) (event : Event) (nas : Nas) (delay : ℕ)
+    → event.act ≡ Sweep nas delay → HasSwept rules (past_of rules events) event nas delay
 
 -- a closed session has no held link, so of an alive's first two cases at most one applies
 abbrev pub ClosedSessionsHoldNoLink : Type 0
@@ -75,7 +92,7 @@ AcceptNumbersCountUp = (rules : Rules) (events : List Event)
 
 -- the key of an ask
 abbrev pub key_of : Act → Option Key
-key_of (Ask key nas) = Some key
+key_of (Ask key nas station) = Some key
 key_of _ = None
 
 -- a fresh ask of a key got this decision

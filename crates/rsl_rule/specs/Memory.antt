@@ -6,6 +6,6 @@ use Rattle.rsl_session.specs.declared.past_event.PastEvent.{PastEvent}
 
 -- an alive, and an ask of an account that has had an event before
 abbrev pub LooksBack : (history : List PastEvent) → Act → Type 0
-LooksBack history (Ask key nas) = 0 < length history
-LooksBack history (Alive nas session bundle class) = Unit {0}
+LooksBack history (Ask key nas station) = 0 < length history
+LooksBack history (Alive nas session bundle class station) = Unit {0}
 LooksBack history _ = ⊥

@@ -13,13 +13,15 @@ ghost use Rattle.rsl_session.specs.Ask.{
   repeats,
 };
 ghost use Rattle.rsl_session.specs.Clock.{clock};
+ghost use Rattle.rsl_rule.specs.Since.{acts_since};
+ghost use Rattle.rsl_rule.specs.Yielding.{making_room};
 
 use crate::clock::{clock_of, clock_with};
 use crate::count::has_place_beside;
 use crate::held::{links_before, links_but, numbers_of};
 use crate::link::accept_number;
-use crate::sweep::is_swept_in;
-use crate::yielding::yielding_link;
+use crate::sweep::is_swept_since;
+use crate::yielding::{Candidates, yielding_link};
 use rsl_accounts::Rules;
 use rsl_event::{Act, Decision, Event, Key};
 use rsl_session::{KEPT_ASKS, KeptAsk, Outcome, PastEvent};
@@ -48,17 +50,20 @@ fn keep_ask(
     act: &Act,
     decision: Option<Decision>,
 ) -> Result<Option<KeptAsk>, NoMemory>
-    ensures { IfOk result (λ ask. ask ≡
-        kept_ask (clock (looking_back history.now)) since.now act.now decision) }
+    ensures { IfOk result (λ ask. ask ≡ kept_ask (clock (looking_back history.now))
+        (acts_since (clock (looking_back history.now)) since.now) act.now decision) }
 {
     match (act, decision) {
-        (Act::Ask { key, nas }, Some(decision)) => Ok(Some(KeptAsk {
-            key: *key,
-            nas: nas.try_copy(alloc)?,
-            decision,
-            at: clock_of(history),
-            swept: is_swept_in(since, nas),
-        })),
+        (Act::Ask { key, nas, .. }, Some(decision)) => {
+            let at = clock_of(history);
+            Ok(Some(KeptAsk {
+                key: *key,
+                nas: nas.try_copy(alloc)?,
+                decision,
+                at,
+                swept: is_swept_since(at, nas, since),
+            }))
+        }
         _ => Ok(None),
     }
 }
@@ -129,6 +134,30 @@ fn accept_count(history: &[PastEvent]) -> u64
     count
 }
 
+/// The link that yields of those held: the one that can, if another can open without it.
+fn link_making_room(
+    alloc: Global,
+    rules: &Rules,
+    history: &[PastEvent],
+    links: &[usize],
+    candidate: Option<usize>,
+) -> Result<Option<usize>, NoMemory>
+    requires { RulesFit rules.now }
+    ensures link { IfOk result (λ yielded. yielded ≡
+        making_room rules.now (looking_back history.now) links.now candidate) }
+    ensures refused { OnErr result (0 < length links.now) }
+{
+    let Some(link) = candidate else {
+        return Ok(None);
+    };
+    let others = links_but(alloc, links, link)?;
+    if has_place_beside(alloc, rules, history, &others)? {
+        Ok(Some(link))
+    } else {
+        Ok(None)
+    }
+}
+
 /// What a fresh ask does, if there is an accept number left for it.
 fn outcome_of_fresh(
     alloc: Global,
@@ -145,20 +174,17 @@ fn outcome_of_fresh(
 {
     let before = links_before(alloc, rules, history, event)?;
     let links = numbers_of(alloc, &before)?;
+    let returning = yielding_link(rules, history, event, Candidates::OfStation, &before);
+    if let Some(yielded) = link_making_room(alloc, rules, history, &links, returning)? {
+        return Ok(Outcome::AcceptedInPlace { number, yielded });
+    }
     if has_place_beside(alloc, rules, history, &links)? {
         return Ok(Outcome::Accepted(number));
     }
-    let Some(link) = yielding_link(rules, event, &before) else {
-        return Ok(Outcome::Refused);
-    };
-    let others = links_but(alloc, &links, link)?;
-    if has_place_beside(alloc, rules, history, &others)? {
-        Ok(Outcome::AcceptedInPlace {
-            number,
-            yielded: link,
-        })
-    } else {
-        Ok(Outcome::Refused)
+    let idle = yielding_link(rules, history, event, Candidates::Idle, &before);
+    match link_making_room(alloc, rules, history, &links, idle)? {
+        Some(yielded) => Ok(Outcome::AcceptedInPlace { number, yielded }),
+        None => Ok(Outcome::Refused),
     }
 }
 

@@ -2,9 +2,10 @@ ghost use Rattle.std.specs.Prelude.{◌≡◌, [], IfOk, take};
 ghost use Rattle.rsl_session.specs.Past.{looking_back};
 ghost use Rattle.rsl_session.specs.Closed.{closes, is_closed, kept_stop, stops};
 ghost use Rattle.rsl_session.specs.Clock.{clock};
+ghost use Rattle.rsl_rule.specs.Since.{acts_since};
 
 use crate::clock::{clock_of, clock_with};
-use crate::sweep::is_swept_in;
+use crate::sweep::is_swept_since;
 use rsl_accounts::Rules;
 use rsl_event::{Act, Event};
 use rsl_session::{KEPT_STOPS, KeptStop, PastEvent, Session};
@@ -18,18 +19,21 @@ fn keep_stop(
     since: &[PastEvent],
     act: &Act,
 ) -> Result<Option<KeptStop>, NoMemory>
-    ensures { IfOk result (λ stop. stop ≡
-        kept_stop (clock (looking_back history.now)) since.now act.now) }
+    ensures { IfOk result (λ stop. stop ≡ kept_stop (clock (looking_back history.now))
+        (acts_since (clock (looking_back history.now)) since.now) act.now) }
 {
     match act {
-        Act::Stop { nas, session } => Ok(Some(KeptStop {
-            session: Session {
-                nas: nas.try_copy(alloc)?,
-                id: session.try_copy(alloc)?,
-            },
-            at: clock_of(history),
-            swept: is_swept_in(since, nas),
-        })),
+        Act::Stop { nas, session } => {
+            let at = clock_of(history);
+            Ok(Some(KeptStop {
+                session: Session {
+                    nas: nas.try_copy(alloc)?,
+                    id: session.try_copy(alloc)?,
+                },
+                at,
+                swept: is_swept_since(at, nas, since),
+            }))
+        }
         _ => Ok(None),
     }
 }

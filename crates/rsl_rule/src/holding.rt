@@ -12,6 +12,7 @@ ghost use Rattle.rsl_rule.specs.Holding.{IsHolding, furthest_taken, lasting, sta
 use crate::binding::{session_after, session_of_link};
 use crate::link::{is_link_at, opens_link};
 use crate::standing::Standing;
+use crate::sweep::precedes_restart;
 use rsl_accounts::Rules;
 use rsl_event::{Act, Event};
 use rsl_session::{Outcome, PastEvent, Session};
@@ -38,15 +39,17 @@ pub(crate) struct Holding {
     pub furthest: usize,
 }
 
-/// Whether an act ends a link of this standing.
+/// Whether an act, now, ends a link of this standing.
 #[tactic(auto, unfolding(rsl_session::specs::Held::ended_by, rsl_session::specs::Binding::is_bound_to, crate::specs::Standing::standing_of))]
-fn is_ended_by(history: &[PastEvent], act: &Act, link: usize, standing: &Standing) -> bool
+fn is_ended_by(history: &[PastEvent], now: u64, act: &Act, link: usize, standing: &Standing) -> bool
     requires { standing.now ≡ standing_of link (looking_back history.now) }
-    ensures { result ≡ ended_by (looking_back history.now) act.now link }
+    ensures { result ≡ ended_by (looking_back history.now) now act.now link }
 {
     match act {
         Act::Stop { nas, session } => standing.is_bound_to(nas, session),
-        Act::Sweep { nas } => is_link_at(history, nas, link),
+        Act::Sweep { nas, delay } => {
+            is_link_at(history, nas, link) && precedes_restart(standing.opened, *delay, now)
+        }
         _ => false,
     }
 }
@@ -64,7 +67,8 @@ fn ends_at(
     requires stands_so { standing.now ≡ standing_of link (looking_back history.now) }
     ensures { result ≡ ends rules.now (looking_back history.now) event.now link }
 {
-    standing.lapses(rules, event) || is_ended_by(history, &event.act, link, standing)
+    let now = standing.clock.max(event.moment);
+    standing.lapses(rules, event) || is_ended_by(history, now, &event.act, link, standing)
 }
 
 /// Whether an event of this outcome makes a link yield.
@@ -172,6 +176,7 @@ fn standing_of_opened(
     let session = session_after(alloc, bound, link, link, entry)?;
     Ok(Standing {
         clock: now,
+        opened: now,
         touched: now,
         session,
     })

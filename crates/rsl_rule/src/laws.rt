@@ -5,12 +5,14 @@ ghost use Rattle.rsl_rule.specs.Laws.{
   AcceptNumbersCountUp,
   ClosedSessionsHoldNoLink,
   EarlyTicksChangeNoDecision,
+  LateRestartsSpareWhatIsNewer,
+  LinksYieldInTurn,
   LowestReservationIsTaken,
   OnePastFollowsTheRule,
   PastsFollowTheRule,
   PlacesStayWithinTheLimit,
   RepeatsAreDecidedAsAFreshAsk,
-  StaleLinksYield,
+  StationsFindTheirPlace,
 };
 
 /// After each event of a list, and not only after the last, the places held are at most the
@@ -19,10 +21,25 @@ pub fn places_stay_within_the_limit()
     ensures { PlacesStayWithinTheLimit }
 {}
 
-/// A link that yields to a fresh ask was stale when the ask came, no stale link was touched
-/// earlier, and the places held after the ask are at most the account's.
-pub fn stale_links_yield()
-    ensures { StaleLinksYield }
+/// A link that yields to a fresh ask was of the ask's station when it came, or stale if no place was
+/// free then and no link of that station would make room. No other such link was touched earlier, of
+/// those touched when it was it opened first, and the places held after the ask are at most the
+/// account's.
+pub fn links_yield_in_turn()
+    ensures { LinksYieldInTurn }
+{}
+
+/// While accept numbers are left, a fresh ask is accepted in the place of the link of its station
+/// that is first in turn, if the other held links leave a place, whether or not one is free. Where no
+/// link makes room so, as for an ask without a station, the free places and the stale links decide.
+pub fn stations_find_their_place()
+    ensures { StationsFindTheirPlace }
+{}
+
+/// A sweep ends the links at its access server that opened at least its delay ago, by the clock once
+/// it has come, and no other link. One without a delay ends all of them.
+pub fn late_restarts_spare_what_is_newer()
+    ensures { LateRestartsSpareWhatIsNewer }
 {}
 
 /// A closed session has no held link, so the order of the first two cases of an alive decides

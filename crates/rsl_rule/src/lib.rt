@@ -17,6 +17,7 @@ mod holding;
 pub mod laws;
 mod link;
 mod standing;
+mod station;
 mod sweep;
 mod version;
 mod yielding;

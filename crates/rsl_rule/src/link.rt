@@ -1,4 +1,4 @@
-ghost use Rattle.std.specs.Prelude.{◌≡◌, if◌then◌else◌};
+ghost use Rattle.std.specs.Prelude.{◌≡◌, ◌==◌, if◌then◌else◌};
 ghost use Rattle.std.specs.Option.{option_copied};
 ghost use Rattle.rsl_session.specs.Past.{looking_back, entry_at};
 ghost use Rattle.rsl_session.specs.Link.{nas_of, number_at, number_of, opens};
@@ -42,6 +42,13 @@ pub(crate) fn touches_link(link: usize, number: usize, outcome: Outcome) -> bool
     }
 }
 
+/// The clock when a link opened, after the event with this number has moved the clock.
+pub(crate) fn opening_after(link: usize, number: usize, clock: u64, opened: u64) -> u64
+    ensures { result ≡ if link == number then clock else opened }
+{
+    if link == number { clock } else { opened }
+}
+
 /// The clock at a link's last touch, after the event with this number has moved the clock.
 pub(crate) fn touch_after(
     link: usize,
@@ -80,7 +87,7 @@ fn is_act_at(act: &Act, nas: &Nas) -> bool
         Act::Ask { nas: other, .. }
         | Act::Alive { nas: other, .. }
         | Act::Stop { nas: other, .. }
-        | Act::Sweep { nas: other } => other.is_same(nas),
+        | Act::Sweep { nas: other, .. } => other.is_same(nas),
         Act::Tick => false,
     }
 }

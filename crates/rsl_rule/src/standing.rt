@@ -6,7 +6,7 @@ ghost use Rattle.rsl_session.specs.Lapse.{standing_time};
 ghost use Rattle.rsl_rule.specs.Standing.{is_idle_so, standing_of};
 
 use crate::binding::session_after;
-use crate::link::touch_after;
+use crate::link::{opening_after, touch_after};
 use rsl_accounts::Rules;
 use rsl_event::{Event, Nas};
 use rsl_session::{PastEvent, Session};
@@ -18,6 +18,8 @@ use std::alloc::Global;
 pub(crate) struct Standing {
     /// The account's clock.
     pub clock: u64,
+    /// The clock when the link opened.
+    pub opened: u64,
     /// The clock at the link's last touch.
     pub touched: u64,
     /// The session that the link is bound to.
@@ -40,10 +42,12 @@ impl Standing {
     {
         let number = history.len() + 1;
         let clock = self.clock.max(entry.event.moment);
+        let opened = opening_after(link, number, clock, self.opened);
         let touched = touch_after(link, number, entry.outcome, clock, self.touched);
         let session = session_after(alloc, self.session, link, number, entry)?;
         Ok(Standing {
             clock,
+            opened,
             touched,
             session,
         })

@@ -3,4 +3,7 @@
 ///
 /// It is raised with each change of what the rule decides on some events, or of what a book holds
 /// after them. A change of words, code or proofs alone does not raise it.
+///
+/// Stations and delays did not raise it: where no event carries one, the rule decides as before, and
+/// no earlier log has such an event.
 pub const SESSION_RULE_VERSION: u64 = 1;

@@ -14,7 +14,6 @@ use Rattle.rsl_session.specs.declared.past_event.PastEvent.{PastEvent}
 use Rattle.rsl_session.specs.declared.outcome.Outcome.TheVariants.{Opened, Ignored, Over, Passed}
 use Rattle.rsl_session.specs.declared.session.Session.{Session}
 use Rattle.rsl_session.specs.Past.{Past}
-use Rattle.rsl_session.specs.Same.{same_nas}
 use Rattle.rsl_session.specs.Clock.{clock, clock_at}
 use Rattle.rsl_session.specs.Link.{links, opens, number_of}
 use Rattle.rsl_session.specs.Binding.{touches, is_bound_to}
@@ -25,7 +24,7 @@ use Rattle.rsl_session.specs.Closed.{is_closed, stops}
 use Rattle.rsl_session.specs.Alive.{alive_outcome, unbound_outcome, link_of, reservation_of, has_room, over_count}
 use Rattle.rsl_session.specs.Rule.{IsRuled, decision_of, decisions, decisions_from, entry_of, outcome_by, outcome_of, past_from, past_of, places_after}
 use Rattle.rsl_session.specs.Book.{Book, BookLink, new_book, places_in}
-use Rattle.rsl_session.specs.BookLinks.{is_link_of}
+use Rattle.rsl_session.specs.BookLinks.{is_link_of, is_swept}
 use Rattle.rsl_session.specs.BookStep.{act_on, step, stop, sweep, book_after, decided_by}
 use Rattle.rsl_session.specs.BookOf.{book_of, link_view}
 use Rattle.rsl_session.proofs.Ending.{gives_way}
@@ -34,7 +33,8 @@ use Rattle.rsl_session.proofs.BookLists.{filter_view, filter_same, find_view, or
 use Rattle.rsl_session.proofs.BookViews.{did}
 use Rattle.rsl_session.proofs.BookKnown.{is_known, held_before_known}
 use Rattle.rsl_session.proofs.BookKept.{asks_same, asks_swept, stops_same, stops_more, stops_swept, accepts_same, over_same}
-use Rattle.rsl_session.proofs.BookTests.{at_is, link_of_is, bundles_are}
+use Rattle.rsl_session.proofs.BookTests.{link_of_is, swept_is, bundles_are}
+unfoldable use Rattle.rsl_session.proofs.BookTests.{is_swept_at}
 use Rattle.rsl_session.proofs.BookGrown.{views_quiet}
 use Rattle.rsl_session.proofs.BookAt.{book_come, book_same, come, settled, links_same}
 use Rattle.rsl_session.proofs.BookAsk.{ask_joins}
@@ -66,15 +66,15 @@ stop_joins rules moment nas id past ruled =
     (left_by_act rules event past (is_link_of session) (is_bound_to past session) ruled (λ link known. link_of_is past session link) (λ link. or_false (is_bound_to past session link)))
     (sym (accepts_same entry past refl)) (sym (asks_same entry past refl refl)) (stops_more moment Passed past nas id) (sym (over_same entry past refl))
 
-sweep_joins : (rules : Rules) (moment : ℕ) (nas : Nas) (past : Past) → IsRuled rules past
-    → sweep (book_come rules past (record { moment = moment; act = Sweep nas })) nas ≡ book_of rules (did (record { moment = moment; act = Sweep nas }) Passed ∷ past)
-unfolding book_come sweep clock_at gives_way ended_by yields fresh_decision number_of
-sweep_joins rules moment nas past ruled =
-    let event : Event = record { moment = moment; act = Sweep nas } in
+sweep_joins : (rules : Rules) (moment : ℕ) (nas : Nas) (delay : ℕ) (past : Past) → IsRuled rules past
+    → sweep (book_come rules past (record { moment = moment; act = Sweep nas delay })) nas delay ≡ book_of rules (did (record { moment = moment; act = Sweep nas delay }) Passed ∷ past)
+unfolding book_come sweep clock_at gives_way ended_by yields fresh_decision number_of is_swept_at
+sweep_joins rules moment nas delay past ruled =
+    let event : Event = record { moment = moment; act = Sweep nas delay } in
     let entry : PastEvent = did event Passed in
-    settled rules event past Passed (sweep (book_come rules past event) nas) refl
-    (left_by_act rules event past (λ (link : BookLink). same_nas link.nas nas) (is_at past nas) ruled (λ link known. at_is past nas link known) (λ link. or_false (is_at past nas link)))
-    (sym (accepts_same entry past refl)) (asks_swept moment Passed past nas) (stops_swept moment Passed past nas) (sym (over_same entry past refl))
+    settled rules event past Passed (sweep (book_come rules past event) nas delay) refl
+    (left_by_act rules event past (is_swept nas delay (clock_at past event)) (is_swept_at past nas delay (clock_at past event)) ruled (λ link known. swept_is past nas delay (clock_at past event) link known) (λ link. or_false (is_swept_at past nas delay (clock_at past event) link)))
+    (sym (accepts_same entry past refl)) (asks_swept moment Passed past nas delay) (stops_swept moment Passed past nas delay) (sym (over_same entry past refl))
 
 tick_joins : (rules : Rules) (moment : ℕ) (past : Past) → IsRuled rules past
     → book_come rules past (record { moment = moment; act = Tick }) ≡ book_of rules (did (record { moment = moment; act = Tick }) Passed ∷ past)
@@ -111,17 +111,17 @@ act_joins : (rules : Rules) (past : Past) (moment : ℕ) (act : Act) → IsRuled
       decision_of (outcome_by rules past (record { moment = moment; act = act }) act),
     )
 unfolding book_come repeated_ask link_of
-act_joins rules past moment (Ask key nas) ruled =
-    ask_joins rules moment key nas past ruled (repeated_ask rules past (record { moment = moment; act = Ask key nas }) key)
-act_joins rules past moment (Alive nas id bundle class) ruled =
-    let event : Event = record { moment = moment; act = Alive nas id bundle class } in
+act_joins rules past moment (Ask key nas station) ruled =
+    ask_joins rules moment key nas station past ruled (repeated_ask rules past (record { moment = moment; act = Ask key nas station }) key)
+act_joins rules past moment (Alive nas id bundle class station) ruled =
+    let event : Event = record { moment = moment; act = Alive nas id bundle class station } in
     let session : Session = record { nas = nas; id = id } in
     let found : find (is_link_of session) (map (link_view past) (held_before rules past event)) ≡ option_map (link_view past) (find (is_bound_to past session) (held_before rules past event)) =
     find_view (link_view past) (is_known past) (is_link_of session) (is_bound_to past session) (λ link known. link_of_is past session link) (held_before rules past event) (held_before_known rules past event ruled) in
     rw (found, alive_done rules past event session class (link_of rules past event session))
-    (ap (λ book. (book, Done)) (alive_joins rules moment nas id bundle class past ruled (link_of rules past event session) refl))
+    (ap (λ book. (book, Done)) (alive_joins rules moment nas id bundle class station past ruled (link_of rules past event session) refl))
 act_joins rules past moment (Stop nas id) ruled = ap (λ book. (book, Done)) (stop_joins rules moment nas id past ruled)
-act_joins rules past moment (Sweep nas) ruled = ap (λ book. (book, Done)) (sweep_joins rules moment nas past ruled)
+act_joins rules past moment (Sweep nas delay) ruled = ap (λ book. (book, Done)) (sweep_joins rules moment nas delay past ruled)
 act_joins rules past moment Tick ruled = ap (λ book. (book, Done)) (tick_joins rules moment past ruled)
 
 pub joins : (rules : Rules) (past : Past) (event : Event) → IsRuled rules past

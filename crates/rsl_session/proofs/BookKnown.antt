@@ -18,7 +18,7 @@ use Rattle.rsl_session.specs.Past.{Past, entry_at}
 use Rattle.rsl_session.specs.Link.{links, opens, nas_at, nas_of, number_at, number_of}
 use Rattle.rsl_session.specs.Binding.{binds, session_at, session_of, bound_by}
 use Rattle.rsl_session.specs.Held.{held_links, held_before}
-use Rattle.rsl_session.specs.Ask.{ask_outcome, fresh_outcome, unfitting_outcome, repeated_ask, has_a_place, has_a_place_without, yielding_link, accepts}
+use Rattle.rsl_session.specs.Ask.{ask_outcome, fresh_outcome, placed_outcome, returning_outcome, station_link, unfitting_outcome, repeated_ask, has_a_place, has_a_place_without, yielding_link, accepts}
 use Rattle.rsl_session.specs.Alive.{alive_outcome, unbound_outcome, reservation_of, has_room}
 use Rattle.rsl_session.specs.Closed.{is_closed}
 use Rattle.rsl_session.specs.Rule.{IsRuled, outcome_of, outcome_by}
@@ -49,7 +49,7 @@ IsOpening act Opened = (is_some (nas_of act) ≡ true) × (is_some (session_of a
 IsOpening act _ = ⊤
 
 opening_of : (rules : Rules) (past : Past) (event : Event) → IsOpening event.act (outcome_of rules past event)
-unfolding IsOpening outcome_of fresh_outcome nas_of session_of
+unfolding IsOpening outcome_of fresh_outcome placed_outcome nas_of session_of
 opening_of rules past event = by_act event.act where
   of_ask : (act : Act) → is_some (nas_of act) ≡ true → (found : Option KeptAsk)
       → IsOpening act (ask_outcome rules past event found)
@@ -69,8 +69,20 @@ opening_of rules past event = by_act event.act where
     by_place true = at
     by_place false = unfitting _
 
+    placed : IsOpening act (placed_outcome rules past event)
+    placed = by_place (has_a_place rules past event)
+
+    in_place : (link : ℕ) (fits : Bool)
+        → IsOpening act (cond fits (AcceptedInPlace (accepts past) link) (placed_outcome rules past event))
+    in_place link true = at
+    in_place link false = placed
+
+    fresh : (found : Option ℕ) → IsOpening act (returning_outcome rules past event found)
+    fresh None = placed
+    fresh (Some link) = in_place link (has_a_place_without rules past event link)
+
     numbered : (left : Bool) → IsOpening act (cond left (fresh_outcome rules past event) Refused)
-    numbered true = by_place (has_a_place rules past event)
+    numbered true = fresh (station_link rules past event)
     numbered false = tt
 
   of_alive : (act : Act) → (is_some (nas_of act) ≡ true) × (is_some (session_of act) ≡ true)
@@ -92,10 +104,10 @@ opening_of rules past event = by_act event.act where
     open_or_closed false = unbound _
 
   by_act : (act : Act) → IsOpening act (outcome_by rules past event act)
-  by_act (Ask key nas) = of_ask (Ask key nas) refl (repeated_ask rules past event key)
-  by_act (Alive nas id bundle class) = of_alive (Alive nas id bundle class) (refl, refl) _ class _
+  by_act (Ask key nas station) = of_ask (Ask key nas station) refl (repeated_ask rules past event key)
+  by_act (Alive nas id bundle class station) = of_alive (Alive nas id bundle class station) (refl, refl) _ class _
   by_act (Stop nas id) = tt
-  by_act (Sweep nas) = tt
+  by_act (Sweep nas delay) = tt
   by_act Tick = tt
 
 -- whether a link has opened, and has an access server, and an accept number or a session

@@ -9,16 +9,18 @@ use Rattle.rsl_session.specs.declared.session.Session.{Session}
 use Rattle.rsl_session.specs.Past.{Past}
 use Rattle.rsl_session.specs.Same.{same_nas}
 use Rattle.rsl_session.specs.Clock.{clock_at}
-use Rattle.rsl_session.specs.Link.{nas_at, number_at}
+use Rattle.rsl_session.specs.Sweep.{precedes}
+use Rattle.rsl_session.specs.Link.{nas_at, number_at, opened_at}
 use Rattle.rsl_session.specs.Binding.{session_at, is_session, is_bound_to, is_reserved}
 use Rattle.rsl_session.specs.Touch.{touched_at}
+use Rattle.rsl_session.specs.Station.{is_of_station}
 use Rattle.rsl_session.specs.Lapse.{lapses, standing_time, is_idle}
-use Rattle.rsl_session.specs.Held.{held_before, is_at, is_nas}
+use Rattle.rsl_session.specs.Held.{is_at, is_nas}
 use Rattle.rsl_session.specs.Places.{bundles}
-use Rattle.rsl_session.specs.Ask.{has_place_beside, idle_links, is_touched_first, yielding_link}
+use Rattle.rsl_session.specs.Ask.{has_place_beside, is_touched_first, first_touched}
 use Rattle.rsl_session.specs.Alive.{is_chosen, is_number}
 use Rattle.rsl_session.specs.Book.{BookLink, bundles_in, is_bound, is_stale_at}
-use Rattle.rsl_session.specs.BookLinks.{lapses_at, time_of, is_holder, is_link_of, is_wanted, can_be_taken, can_yield, fits_beside}
+use Rattle.rsl_session.specs.BookLinks.{lapses_at, time_of, is_holder, is_link_of, is_wanted, can_be_taken, is_oldest, is_stationed, is_swept, fits_beside}
 use Rattle.rsl_session.specs.BookOf.{link_view, holder_of, known_nas}
 use Rattle.rsl_session.proofs.Ending.{any_link, list_all_any}
 use Rattle.rsl_session.proofs.BookLists.{filter_view, find_filter, list_all_view, map_of_map}
@@ -99,9 +101,23 @@ pub fits_is : (rules : Rules) (past : Past) (links : List ℕ)
 unfolding fits_beside has_place_beside
 fits_is rules past links = rw (bundles_are past links) refl
 
--- the link that can yield
-pub is_yielding : Rules → Past → Event → ℕ → Bool
-is_yielding rules past event link = is_idle rules past event link && is_touched_first past (idle_links rules past event) link
+-- the links of a station, and those that a sweep ends
+pub stationed_is : (past : Past) (station : Option (List ℕ)) (link : ℕ)
+    → is_stationed station (link_view past link) ≡ is_of_station past station link
+unfolding is_stationed is_of_station link_view
+stationed_is past station link = refl
+
+unfoldable pub is_swept_at : Past → Nas → (delay now : ℕ) → ℕ → Bool
+is_swept_at past nas delay now link = is_at past nas link && precedes (opened_at link past) delay now
+
+pub swept_is : (past : Past) (nas : Nas) (delay now link : ℕ) → is_known past link ≡ true
+    → is_swept nas delay now (link_view past link) ≡ is_swept_at past nas delay now link
+unfolding is_swept is_swept_at is_at link_view
+swept_is past nas delay now link known = rw (nas_is nas (nas_at link past) (known_at past link known).0) refl
+
+-- the link of some that was touched longest ago
+pub is_oldest_of : Past → (ℕ → Bool) → List ℕ → ℕ → Bool
+is_oldest_of past passes links link = passes link && is_touched_first past (filter passes links) link
 
 touched_first : (past : Past) (link : ℕ) (links : List ℕ)
     → list_all (λ (other : BookLink). nat_le (link_view past link).touched other.touched)
@@ -111,17 +127,16 @@ unfolding link_view
 touched_first past link links =
     list_all_view (link_view past) (λ (other : BookLink). nat_le (touched_at link past) other.touched) (λ other. nat_le (touched_at link past) (touched_at other past)) (λ x. refl) links
 
-pub yield_is : (rules : Rules) (past : Past) (event : Event) (link : ℕ)
-    → can_yield rules (clock_at past event) (map (link_view past) (held_before rules past event))
-    (link_view past link) ≡ is_yielding rules past event link
-unfolding can_yield is_yielding is_touched_first idle_links
-yield_is rules past event link =
-    let stale : filter (is_stale_at rules (clock_at past event)) (map (link_view past) (held_before rules past event)) ≡ map (link_view past) (filter (is_idle rules past event) (held_before rules past event)) =
-    filter_view (link_view past) any_link (is_stale_at rules (clock_at past event)) (is_idle rules past event) (λ x any. stale_is rules past event x) (held_before rules past event) (list_all_any (held_before rules past event)) in
-    rw (stale, stale_is rules past event link)
-    (ap (λ b. is_idle rules past event link && b) (touched_first past link (filter (is_idle rules past event) (held_before rules past event))))
+pub oldest_is : (past : Past) (p : BookLink → Bool) (q : ℕ → Bool) (links : List ℕ)
+    → ((link : ℕ) → p (link_view past link) ≡ q link) → (link : ℕ)
+    → is_oldest p (map (link_view past) links) (link_view past link) ≡ is_oldest_of past q links link
+unfolding is_oldest is_oldest_of is_touched_first
+oldest_is past p q links is link =
+    let those : filter p (map (link_view past) links) ≡ map (link_view past) (filter q links) =
+    filter_view (link_view past) any_link p q (λ x any. is x) links (list_all_any links) in
+    rw (those, is link) (ap (λ b. q link && b) (touched_first past link (filter q links)))
 
-pub yielding_is : (rules : Rules) (past : Past) (event : Event)
-    → yielding_link rules past event ≡ find (is_yielding rules past event) (held_before rules past event)
-unfolding yielding_link idle_links is_yielding
-yielding_is rules past event = find_filter (is_touched_first past (filter (is_idle rules past event) (held_before rules past event))) (is_idle rules past event) (held_before rules past event)
+pub first_is : (past : Past) (q : ℕ → Bool) (links : List ℕ)
+    → first_touched past (filter q links) ≡ find (is_oldest_of past q links) links
+unfolding first_touched is_oldest_of
+first_is past q links = find_filter (is_touched_first past (filter q links)) q links

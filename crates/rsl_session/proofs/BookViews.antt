@@ -11,14 +11,15 @@ use Rattle.rsl_session.specs.declared.outcome.Outcome.TheVariants.{Accepted, Acc
 use Rattle.rsl_session.specs.declared.session.Session.{Session}
 use Rattle.rsl_session.specs.Past.{Past, entry_at}
 use Rattle.rsl_session.specs.Clock.{clock, clock_at}
-use Rattle.rsl_session.specs.Link.{nas_at, nas_of, number_at, number_of}
+use Rattle.rsl_session.specs.Link.{nas_at, nas_of, number_at, number_of, opened_at}
 use Rattle.rsl_session.specs.Binding.{binds, touches, session_at, session_of, bound_by, bundle_at, bundle_of, bundled_by}
 use Rattle.rsl_session.specs.Touch.{touched_at}
+use Rattle.rsl_session.specs.Station.{station_at, station_of, stationed_by}
 use Rattle.rsl_session.specs.Rule.{IsRuled}
 use Rattle.rsl_session.specs.Book.{Reserved, Bound}
 use Rattle.rsl_session.specs.BookLinks.{touch, take_for}
 use Rattle.rsl_session.specs.BookOf.{link_view}
-use Rattle.rsl_session.proofs.Ruled.{bound-later, bundle_at-later}
+use Rattle.rsl_session.proofs.Ruled.{bound-later, bundle_at-later, station_at-later}
 use Rattle.rsl_session.proofs.BookLists.{or_none}
 
 -- an event with what it did
@@ -39,6 +40,11 @@ pub number_older : (entry : PastEvent) (past : Past) (link : ℕ) → link ≤ l
 unfolding number_at entry_at
 number_older entry past link within = rw (older link past within) refl
 
+pub opened_older : (entry : PastEvent) (past : Past) (link : ℕ) → link ≤ length past
+    → opened_at link (entry ∷ past) ≡ opened_at link past
+unfolding opened_at
+opened_older entry past link within = rw (older link past within) refl
+
 binds_touched : (link number : ℕ) (outcome : Outcome) → touches link number outcome ≡ false
     → binds link number outcome ≡ false
 unfolding binds touches
@@ -57,11 +63,12 @@ binds_touched link number Passed untouched = refl
 pub view_untouched : (entry : PastEvent) (past : Past) (link : ℕ) → link ≤ length past
     → touches link (suc (length past)) entry.outcome ≡ false
     → link_view (entry ∷ past) link ≡ link_view past link
-unfolding link_view session_at bound_by bundle_at bundled_by touched_at
+unfolding link_view session_at bound_by bundle_at bundled_by station_at stationed_by touched_at
 view_untouched entry past link within untouched =
     rw (
       nas_older entry past link within,
       number_older entry past link within,
+      opened_older entry past link within,
       untouched,
       binds_touched link (suc (length past)) entry.outcome untouched,
       or_none (session_at link past),
@@ -71,12 +78,13 @@ view_untouched entry past link within untouched =
 -- a link that an alive renews is touched by it
 pub view_renewed : (event : Event) (past : Past) (link : ℕ) → link ≤ length past
     → link_view (did event (Renewed link) ∷ past) link ≡ touch (clock_at past event) (bundle_of event.act)
-    (link_view past link)
-unfolding link_view touch session_at bound_by bundle_at bundled_by touched_at binds touches clock clock_at
+    (station_of event.act) (link_view past link)
+unfolding link_view touch session_at bound_by bundle_at bundled_by station_at stationed_by touched_at binds touches clock clock_at
 view_renewed event past link within =
     rw (
       nas_older (did event (Renewed link)) past link within,
       number_older (did event (Renewed link)) past link within,
+      opened_older (did event (Renewed link)) past link within,
       eq-eqb link link refl,
       or_none (session_at link past),
     ) refl
@@ -85,22 +93,24 @@ view_renewed event past link within =
 pub view_taken : (event : Event) (past : Past) (link : ℕ) (session : Session) → link ≤ length past
     → session_at link past ≡ None → session_of event.act ≡ Some session
     → link_view (did event (Took link) ∷ past) link ≡ take_for session (clock_at past event)
-    (bundle_of event.act) (link_view past link)
-unfolding link_view take_for session_at bound_by bundle_at bundled_by touched_at binds touches clock clock_at
+    (bundle_of event.act) (station_of event.act) (link_view past link)
+unfolding link_view take_for touch session_at bound_by bundle_at bundled_by station_at stationed_by touched_at binds touches clock clock_at
 view_taken event past link session within reserved alive =
-    rw (nas_older (did event (Took link)) past link within, number_older (did event (Took link)) past link within, eq-eqb link link refl, reserved, alive) refl
+    rw (nas_older (did event (Took link)) past link within, number_older (did event (Took link)) past link within, opened_older (did event (Took link)) past link within, eq-eqb link link refl, reserved, alive) refl
 
 -- a new link, by the act that opened it
 pub view_accepted : (rules : Rules) (event : Event) (past : Past) (number : ℕ) (nas : Nas)
     → IsRuled rules past → nas_of event.act ≡ Some nas → bundle_of event.act ≡ None
     → link_view (did event (Accepted number) ∷ past) (suc (length past))
-    ≡ record { nas = nas; holder = Reserved number; bundle = None; touched = clock_at past event }
-unfolding link_view nas_at number_at entry_at number_of session_at bound_by bundle_at bundled_by touched_at binds touches clock clock_at
+    ≡ record { nas = nas; holder = Reserved number; bundle = None; station = station_of event.act; opened = clock_at past event; touched = clock_at past event }
+unfolding link_view nas_at number_at opened_at entry_at number_of session_at bound_by bundle_at bundled_by station_at stationed_by touched_at binds touches clock clock_at
 view_accepted rules event past number nas ruled at alone =
     rw (
       eq-eqb (suc (length past)) (suc (length past)) refl,
       bound-later rules past (suc (length past)) ruled (omega arith),
       bundle_at-later rules past (suc (length past)) ruled (omega arith),
+      station_at-later rules past (suc (length past)) ruled (omega arith),
+      or_none (station_of event.act),
       at,
       alone,
     ) refl
@@ -108,13 +118,15 @@ view_accepted rules event past number nas ruled at alone =
 pub view_accepted_in_place : (rules : Rules) (event : Event) (past : Past) (number yielded : ℕ) (nas : Nas)
     → IsRuled rules past → nas_of event.act ≡ Some nas → bundle_of event.act ≡ None
     → link_view (did event (AcceptedInPlace number yielded) ∷ past) (suc (length past))
-    ≡ record { nas = nas; holder = Reserved number; bundle = None; touched = clock_at past event }
-unfolding link_view nas_at number_at entry_at number_of session_at bound_by bundle_at bundled_by touched_at binds touches clock clock_at
+    ≡ record { nas = nas; holder = Reserved number; bundle = None; station = station_of event.act; opened = clock_at past event; touched = clock_at past event }
+unfolding link_view nas_at number_at opened_at entry_at number_of session_at bound_by bundle_at bundled_by station_at stationed_by touched_at binds touches clock clock_at
 view_accepted_in_place rules event past number yielded nas ruled at alone =
     rw (
       eq-eqb (suc (length past)) (suc (length past)) refl,
       bound-later rules past (suc (length past)) ruled (omega arith),
       bundle_at-later rules past (suc (length past)) ruled (omega arith),
+      station_at-later rules past (suc (length past)) ruled (omega arith),
+      or_none (station_of event.act),
       at,
       alone,
     ) refl
@@ -122,13 +134,15 @@ view_accepted_in_place rules event past number yielded nas ruled at alone =
 pub view_opened : (rules : Rules) (event : Event) (past : Past) (session : Session) → IsRuled rules past
     → nas_of event.act ≡ Some session.nas → session_of event.act ≡ Some session
     → link_view (did event Opened ∷ past) (suc (length past))
-    ≡ record { nas = session.nas; holder = Bound session; bundle = bundle_of event.act; touched = clock_at past event }
-unfolding link_view nas_at number_at entry_at number_of session_at bound_by bundle_at bundled_by touched_at binds touches clock clock_at
+    ≡ record { nas = session.nas; holder = Bound session; bundle = bundle_of event.act; station = station_of event.act; opened = clock_at past event; touched = clock_at past event }
+unfolding link_view nas_at number_at opened_at entry_at number_of session_at bound_by bundle_at bundled_by station_at stationed_by touched_at binds touches clock clock_at
 view_opened rules event past session ruled at alive =
     rw (
       eq-eqb (suc (length past)) (suc (length past)) refl,
       bound-later rules past (suc (length past)) ruled (omega arith),
       bundle_at-later rules past (suc (length past)) ruled (omega arith),
+      station_at-later rules past (suc (length past)) ruled (omega arith),
+      or_none (station_of event.act),
       at,
       alive,
     ) refl

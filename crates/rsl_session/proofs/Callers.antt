@@ -8,7 +8,7 @@ pub use Rattle.rsl_session.proofs.Counting.{length-le-places, places_of-Some, pl
 -- places after events are within the limit
 pub use Rattle.rsl_session.proofs.Limit.{places_after-le}
 -- pasts follow the rule, and what a past says of a link stays with the events that come after
-pub use Rattle.rsl_session.proofs.Ruled.{IsRuled-past_of, bound-later, bundle_at-later, is_in, is_in-true, links-in, same_past, touched-later, yielded-le}
+pub use Rattle.rsl_session.proofs.Ruled.{IsRuled-past_of, bound-later, bundle_at-later, is_in, is_in-true, links-in, same_past, station_at-later, touched-later, yielded-le}
 -- which links are held after an event
 unfoldable pub use Rattle.rsl_session.proofs.Ending.{gives_way, left_by}
 pub use Rattle.rsl_session.proofs.Ending.{any_link, filter-filter, freed_later, freed_older, held-opened, held-quiet, left_by-held, list_all_any, not-or}

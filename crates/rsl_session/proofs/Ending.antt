@@ -7,6 +7,7 @@ use Rattle.std.proofs.lemmas.List.Elements.{filter-append}
 use Rattle.rsl_accounts.specs.declared.rules.Rules.{Rules}
 use Rattle.rsl_session.specs.declared.past_event.PastEvent.{PastEvent}
 use Rattle.rsl_session.specs.Past.{Past}
+use Rattle.rsl_session.specs.Clock.{clock_at}
 use Rattle.rsl_session.specs.Link.{links, opens}
 use Rattle.rsl_session.specs.Lapse.{lapses}
 use Rattle.rsl_session.specs.Held.{held_links, held_before, is_freed, ends, ended_by, yields}
@@ -50,7 +51,7 @@ not-or3 false b c = refl
 
 -- whether an event's act ends a link, or the link yields to the event
 unfoldable pub gives_way : PastEvent → Past → ℕ → Bool
-gives_way entry past link = ended_by past entry.event.act link || yields link entry.outcome
+gives_way entry past link = ended_by past (clock_at past entry.event) entry.event.act link || yields link entry.outcome
 
 -- the links that an event leaves of those that were held
 unfoldable pub left_by : Rules → PastEvent → Past → List ℕ
@@ -68,9 +69,9 @@ pub left_by-held : (rules : Rules) (entry : PastEvent) (past : Past)
     → filter (λ link. not (ends rules past entry.event link || yields link entry.outcome)) (held_links rules past) ≡ left_by rules entry past
 unfolding left_by held_before ends gives_way
 left_by-held rules entry past =
-    filter-filter any_link (λ link. not (lapses rules past entry.event link)) (λ link. not (ended_by past entry.event.act link || yields link entry.outcome))
-    (λ link. not ((lapses rules past entry.event link || ended_by past entry.event.act link) || yields link entry.outcome))
-    (λ link h. not-or3 (lapses rules past entry.event link) (ended_by past entry.event.act link) (yields link entry.outcome))
+    filter-filter any_link (λ link. not (lapses rules past entry.event link)) (λ link. not (ended_by past (clock_at past entry.event) entry.event.act link || yields link entry.outcome))
+    (λ link. not ((lapses rules past entry.event link || ended_by past (clock_at past entry.event) entry.event.act link) || yields link entry.outcome))
+    (λ link h. not-or3 (lapses rules past entry.event link) (ended_by past (clock_at past entry.event) entry.event.act link) (yields link entry.outcome))
     (held_links rules past) (list_all_any (held_links rules past))
 
 older_left : (rules : Rules) (entry : PastEvent) (past : Past) → filter (λ link. not (is_freed rules link (entry ∷ past))) (links past) ≡ left_by rules entry past

@@ -16,12 +16,13 @@ use Rattle.rsl_session.specs.declared.kept.KeptAsk.{KeptAsk}
 use Rattle.rsl_session.specs.declared.session.Session.{Session}
 use Rattle.rsl_session.specs.declared.bundle.Bundle.{Bundle}
 use Rattle.rsl_session.specs.Past.{Past}
+use Rattle.rsl_session.specs.Clock.{clock_at}
 use Rattle.rsl_session.specs.Link.{opens, links}
 use Rattle.rsl_session.specs.Binding.{bundle_at, bundled_by, bundle_of, touches}
 use Rattle.rsl_session.specs.Held.{held_links, held_before, ended_by, yields}
 use Rattle.rsl_session.specs.Lapse.{lapses}
 use Rattle.rsl_session.specs.Places.{places, places_of, bundles, each_bundle}
-use Rattle.rsl_session.specs.Ask.{ask_outcome, fresh_outcome, unfitting_outcome, repeated_ask, has_place_beside, has_a_place, held_without, has_a_place_without, yielding_link, accepts}
+use Rattle.rsl_session.specs.Ask.{ask_outcome, fresh_outcome, placed_outcome, returning_outcome, station_link, unfitting_outcome, repeated_ask, has_place_beside, has_a_place, held_without, has_a_place_without, yielding_link, accepts}
 use Rattle.rsl_session.specs.Alive.{alive_outcome, unbound_outcome, reservation_of, has_room}
 use Rattle.rsl_session.specs.Closed.{is_closed}
 use Rattle.rsl_session.specs.Rule.{IsRuled, outcome_of, outcome_by, past_of, places_after}
@@ -59,12 +60,12 @@ not-gone false true = refl
 not-gone false false = refl
 
 left_without : (rules : Rules) (entry : PastEvent) (past : Past) (number yielded : ℕ) → entry.outcome ≡ AcceptedInPlace number yielded
-    → left_by rules entry past ≡ filter (λ link. not (ended_by past entry.event.act link)) (held_without rules past entry.event yielded)
+    → left_by rules entry past ≡ filter (λ link. not (ended_by past (clock_at past entry.event) entry.event.act link)) (held_without rules past entry.event yielded)
 unfolding left_by gives_way held_without yields
 left_without rules entry past number yielded is =
-    rw is (filter-filter any_link (λ link. not (link == yielded)) (λ link. not (ended_by past entry.event.act link))
-    (λ link. not (ended_by past entry.event.act link || (link == yielded)))
-    (λ link h. not-gone (ended_by past entry.event.act link) (link == yielded))
+    rw is (filter-filter any_link (λ link. not (link == yielded)) (λ link. not (ended_by past (clock_at past entry.event) entry.event.act link))
+    (λ link. not (ended_by past (clock_at past entry.event) entry.event.act link || (link == yielded)))
+    (λ link h. not-gone (ended_by past (clock_at past entry.event) entry.event.act link) (link == yielded))
     (held_before rules past entry.event) (list_all_any (held_before rules past entry.event)))
 
 without_places : (rules : Rules) (entry : PastEvent) (past : Past) (number yielded : ℕ) (others : List (Option Bundle)) → 0 < rules.ports
@@ -73,7 +74,7 @@ without_places : (rules : Rules) (entry : PastEvent) (past : Past) (number yield
 unfolding bundles
 without_places rules entry past number yielded others a_port is =
     rw (left_without rules entry past number yielded is)
-    (fewer rules.ports a_port (λ link. bundle_at link past) (λ link. not (ended_by past entry.event.act link)) others (held_without rules past entry.event yielded))
+    (fewer rules.ports a_port (λ link. bundle_at link past) (λ link. not (ended_by past (clock_at past entry.event) entry.event.act link)) others (held_without rules past entry.event yielded))
 
 before_places : (rules : Rules) (past : Past) (event : Event) → 0 < rules.ports → places_of rules.ports (bundles past (held_before rules past event)) ≤ places rules past
 unfolding bundles places held_before
@@ -87,7 +88,7 @@ HasRoom rules past event Opened = has_room rules past event ≡ true
 HasRoom rules past event _ = ⊤
 
 HasRoom-outcome_of : (rules : Rules) (past : Past) (event : Event) → HasRoom rules past event (outcome_of rules past event)
-unfolding HasRoom outcome_of fresh_outcome
+unfolding HasRoom outcome_of fresh_outcome placed_outcome
 HasRoom-outcome_of rules past event = by_act event.act where
   of_ask : (found : Option KeptAsk) → HasRoom rules past event (ask_outcome rules past event found)
   of_ask (Some ask) = tt
@@ -104,11 +105,19 @@ HasRoom-outcome_of rules past event = by_act event.act where
     by_place true has = has
     by_place false has = unfitting _
 
-    fresh : HasRoom rules past event (fresh_outcome rules past event)
-    fresh = by_place (has_a_place rules past event) refl
+    placed : HasRoom rules past event (placed_outcome rules past event)
+    placed = by_place (has_a_place rules past event) refl
+
+    in_place : (link : ℕ) (fits : Bool) → has_a_place_without rules past event link ≡ fits → HasRoom rules past event (cond fits (AcceptedInPlace (accepts past) link) (placed_outcome rules past event))
+    in_place link true has = has
+    in_place link false has = placed
+
+    fresh : (found : Option ℕ) → HasRoom rules past event (returning_outcome rules past event found)
+    fresh None = placed
+    fresh (Some link) = in_place link (has_a_place_without rules past event link) refl
 
     numbered : (left : Bool) → HasRoom rules past event (cond left (fresh_outcome rules past event) Refused)
-    numbered true = fresh
+    numbered true = fresh (station_link rules past event)
     numbered false = tt
 
   unbound : (found : Option ℕ) → HasRoom rules past event (unbound_outcome rules past event found)
@@ -126,10 +135,10 @@ HasRoom-outcome_of rules past event = by_act event.act where
     open_or_closed false = unbound _
 
   by_act : (act : Act) → HasRoom rules past event (outcome_by rules past event act)
-  by_act (Ask key nas) = of_ask (repeated_ask rules past event key)
-  by_act (Alive nas id bundle class) = of_alive _ class _
+  by_act (Ask key nas station) = of_ask (repeated_ask rules past event key)
+  by_act (Alive nas id bundle class station) = of_alive _ class _
   by_act (Stop nas id) = tt
-  by_act (Sweep nas) = tt
+  by_act (Sweep nas delay) = tt
   by_act Tick = tt
 
 quiet_places : (rules : Rules) (entry : PastEvent) (past : Past) → 0 < rules.ports → opens entry.outcome ≡ false → places rules (entry ∷ past) ≤ places rules past

@@ -17,8 +17,9 @@ use Rattle.rsl_session.specs.Past.{Past}
 use Rattle.rsl_session.specs.Link.{links, opens}
 use Rattle.rsl_session.specs.Binding.{session_at, bound_by, bundle_at, bundled_by, binds, touches}
 use Rattle.rsl_session.specs.Touch.{touched_at}
+use Rattle.rsl_session.specs.Station.{is_of_station, station_at, station_of, stationed_by}
 use Rattle.rsl_session.specs.Held.{held_links, held_before}
-use Rattle.rsl_session.specs.Ask.{ask_outcome, fresh_outcome, unfitting_outcome, repeated_ask, has_a_place, has_a_place_without, yielding_link, idle_links, accepts}
+use Rattle.rsl_session.specs.Ask.{ask_outcome, fresh_outcome, placed_outcome, returning_outcome, first_touched, station_link, station_links, unfitting_outcome, repeated_ask, has_a_place, has_a_place_without, yielding_link, idle_links, accepts}
 use Rattle.rsl_session.specs.Lapse.{is_idle}
 use Rattle.rsl_session.specs.Alive.{alive_outcome, unbound_outcome, link_of, reservation_of, has_room, is_chosen}
 use Rattle.rsl_session.specs.Closed.{is_closed}
@@ -126,12 +127,21 @@ unfolding reservation_of
 reservation_in rules past event nas class link found =
     is_in-true past link (find_passes (is_chosen past nas class) (is_in past) (held_before rules past event) link (held_before-in rules past event) found)
 
--- an ask takes the place of a link that has opened
+-- an ask takes the place of a link that has opened: of one of these that were held
+first_in : (rules : Rules) (past : Past) (event : Event) (passes : ℕ → Bool) (link : ℕ)
+    → first_touched past (filter passes (held_before rules past event)) ≡ Some link → link ≤ length past
+unfolding first_touched
+first_in rules past event passes link found =
+    is_in-true past link (find_passes _ (is_in past) (filter passes (held_before rules past event)) link
+    (list_all-filter passes (is_in past) _ (held_before-in rules past event)) found)
+
 yielding_in : (rules : Rules) (past : Past) (event : Event) (link : ℕ) → yielding_link rules past event ≡ Some link → link ≤ length past
 unfolding yielding_link idle_links
-yielding_in rules past event link found =
-    is_in-true past link (find_passes _ (is_in past) (idle_links rules past event) link
-    (list_all-filter (is_idle rules past event) (is_in past) _ (held_before-in rules past event)) found)
+yielding_in rules past event link found = first_in rules past event (is_idle rules past event) link found
+
+returning_in : (rules : Rules) (past : Past) (event : Event) (link : ℕ) → station_link rules past event ≡ Some link → link ≤ length past
+unfolding station_link station_links
+returning_in rules past event link found = first_in rules past event (is_of_station past (station_of event.act)) link found
 
 -- the link that an outcome names has opened
 pub IsOfPast : Past → Outcome → Type 0
@@ -141,7 +151,7 @@ IsOfPast past (Renewed link) = link ≤ length past
 IsOfPast past _ = ⊤
 
 pub IsOfPast-outcome_of : (rules : Rules) (past : Past) (event : Event) → IsOfPast past (outcome_of rules past event)
-unfolding IsOfPast outcome_of fresh_outcome
+unfolding IsOfPast outcome_of fresh_outcome placed_outcome
 IsOfPast-outcome_of rules past event = by_act event.act where
   of_ask : (found : Option KeptAsk) → IsOfPast past (ask_outcome rules past event found)
   of_ask (Some ask) = tt
@@ -158,11 +168,19 @@ IsOfPast-outcome_of rules past event = by_act event.act where
     by_place true = tt
     by_place false = unfitting _ (yielding_in rules past event)
 
-    fresh : IsOfPast past (fresh_outcome rules past event)
-    fresh = by_place (has_a_place rules past event)
+    placed : IsOfPast past (placed_outcome rules past event)
+    placed = by_place (has_a_place rules past event)
+
+    in_place : (link : ℕ) → link ≤ length past → (fits : Bool) → IsOfPast past (cond fits (AcceptedInPlace (accepts past) link) (placed_outcome rules past event))
+    in_place link within true = within
+    in_place link within false = placed
+
+    fresh : (found : Option ℕ) → ((link : ℕ) → found ≡ Some link → link ≤ length past) → IsOfPast past (returning_outcome rules past event found)
+    fresh None within = placed
+    fresh (Some link) within = in_place link (within link refl) (has_a_place_without rules past event link)
 
     numbered : (left : Bool) → IsOfPast past (cond left (fresh_outcome rules past event) Refused)
-    numbered true = fresh
+    numbered true = fresh (station_link rules past event) (returning_in rules past event)
     numbered false = tt
 
   unbound : (found : Option ℕ) → ((link : ℕ) → found ≡ Some link → link ≤ length past) → IsOfPast past (unbound_outcome rules past event found)
@@ -180,10 +198,10 @@ IsOfPast-outcome_of rules past event = by_act event.act where
     open_or_closed false = unbound _ (reservation_in rules past event session.nas class)
 
   by_act : (act : Act) → IsOfPast past (outcome_by rules past event act)
-  by_act (Ask key nas) = of_ask (repeated_ask rules past event key)
-  by_act (Alive nas id bundle class) = of_alive _ class _ (link_in rules past event (record { nas = nas; id = id }))
+  by_act (Ask key nas station) = of_ask (repeated_ask rules past event key)
+  by_act (Alive nas id bundle class station) = of_alive _ class _ (link_in rules past event (record { nas = nas; id = id }))
   by_act (Stop nas id) = tt
-  by_act (Sweep nas) = tt
+  by_act (Sweep nas delay) = tt
   by_act Tick = tt
 
 -- a link that yields has opened
@@ -240,5 +258,14 @@ unfolding IsRuled bundle_at bundled_by
 bundle_at-later rules [] link ruled later = refl
 bundle_at-later rules (entry ∷ past) link ruled later =
     let older : bundle_at link past ≡ None = bundle_at-later rules past link ruled.1 (omega arith) in
+    let within : IsOfPast past entry.outcome = subst (IsOfPast past) (sym ruled.0) (IsOfPast-outcome_of rules past entry.event) in
+    rw (older, touches_later past entry.outcome link within later) refl
+
+-- a link that has not opened has no station
+pub station_at-later : (rules : Rules) (past : Past) (link : ℕ) → IsRuled rules past → length past < link → station_at link past ≡ None
+unfolding IsRuled station_at stationed_by
+station_at-later rules [] link ruled later = refl
+station_at-later rules (entry ∷ past) link ruled later =
+    let older : station_at link past ≡ None = station_at-later rules past link ruled.1 (omega arith) in
     let within : IsOfPast past entry.outcome = subst (IsOfPast past) (sym ruled.0) (IsOfPast-outcome_of rules past entry.event) in
     rw (older, touches_later past entry.outcome link within later) refl

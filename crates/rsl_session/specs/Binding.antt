@@ -29,12 +29,12 @@ touches link number _ = false
 
 -- the session of an alive
 unfoldable pub session_of : Act → Option Session
-session_of (Alive nas session bundle class) = Some (record { nas = nas; id = session })
+session_of (Alive nas session bundle class station) = Some (record { nas = nas; id = session })
 session_of _ = None
 
 -- the bundle of an alive
 unfoldable pub bundle_of : Act → Option Bundle
-bundle_of (Alive nas session bundle class) = option_map (λ id. record { nas = nas; id = id }) bundle
+bundle_of (Alive nas session bundle class station) = option_map (λ id. record { nas = nas; id = id }) bundle
 bundle_of _ = None
 
 -- the session for which the entry with this number opened or took a link, and the bundle with which

@@ -2,7 +2,7 @@
 -- look back.
 --
 -- A link of a book is at its access server. It is reserved by an accept number or bound to a
--- session, may have a bundle, and has the clock at its last touch.
+-- session, may have a bundle and a station, and has the clock when it opened and at its last touch.
 use Rattle.std.specs.Prelude.{ℕ, ◌-◌, List, [], map, Bool, true, false, ◌&&◌, nat_le, nat_lt, count_by, Option}
 use Rattle.rsl_accounts.specs.declared.rules.Rules.{Rules}
 use Rattle.rsl_event.specs.declared.nas.Nas.{Nas}
@@ -21,6 +21,8 @@ pub record BookLink : Type 0 where
   pub nas : Nas
   pub holder : Holder
   pub bundle : Option Bundle
+  pub station : Option (List ℕ)
+  pub opened : ℕ
   pub touched : ℕ
 
 -- the links in the order in which they opened, the next accept number, and the last fresh asks and

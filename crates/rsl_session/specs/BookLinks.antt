@@ -7,6 +7,8 @@ use Rattle.rsl_event.specs.declared.nas.Nas.{Nas}
 use Rattle.rsl_session.specs.declared.bundle.Bundle.{Bundle}
 use Rattle.rsl_session.specs.declared.session.Session.{Session}
 use Rattle.rsl_session.specs.Same.{same_nas, same_session}
+use Rattle.rsl_session.specs.Station.{same_station}
+use Rattle.rsl_session.specs.Sweep.{precedes}
 use Rattle.rsl_session.specs.Places.{places_of}
 use Rattle.rsl_session.specs.Book.{BookLink, Holder, Reserved, Bound, bundles_in, is_stale_at}
 
@@ -47,28 +49,42 @@ is_wanted (Some wanted) (Reserved number) = number == wanted
 unfoldable pub can_be_taken : Nas → Option ℕ → BookLink → Bool
 can_be_taken nas class link = is_wanted class link.holder && same_nas link.nas nas
 
+-- whether a link is the one touched longest ago of those that pass a test
+unfoldable pub is_oldest : (BookLink → Bool) → List BookLink → BookLink → Bool
+is_oldest passes links link =
+    passes link
+    && list_all (λ (other : BookLink). nat_le link.touched other.touched) (filter passes links)
+
 -- whether a link can yield at this clock: it is stale, and no stale link was touched before it
 unfoldable pub can_yield : Rules → ℕ → List BookLink → BookLink → Bool
-can_yield rules now links link =
-    is_stale_at rules now link
-    && list_all (λ (other : BookLink). nat_le link.touched other.touched)
-    (filter (is_stale_at rules now) links)
+can_yield rules now links link = is_oldest (is_stale_at rules now) links link
+
+-- whether a link is of the station that asks
+unfoldable pub is_stationed : Option (List ℕ) → BookLink → Bool
+is_stationed station link = same_station link.station station
+
+-- whether a link can yield to a station: it is of the station, and no such link was touched before it
+unfoldable pub can_return : Option (List ℕ) → List BookLink → BookLink → Bool
+can_return station links link = is_oldest (is_stationed station) links link
+
+-- whether a sweep of an access server ends a link: it is there, and opened at least the delay ago
+unfoldable pub is_swept : Nas → (delay now : ℕ) → BookLink → Bool
+is_swept nas delay now link = same_nas link.nas nas && precedes link.opened delay now
 
 -- whether another link without a bundle, beside some links, leaves the places within the limit
 unfoldable pub fits_beside : Rules → List BookLink → Bool
 fits_beside rules links = nat_le (places_of rules.ports (bundles_in links) + 1) rules.places
 
--- a link that is touched, by an alive that may carry a bundle
-unfoldable pub touch : ℕ → Option Bundle → BookLink → BookLink
-touch now bundle link = record link { bundle = option_or link.bundle bundle; touched = now }
+-- a link that is touched, by an alive that may carry a bundle and a station
+unfoldable pub touch : ℕ → Option Bundle → Option (List ℕ) → BookLink → BookLink
+touch now bundle station link =
+    record link {
+      bundle = option_or link.bundle bundle;
+      station = option_or station link.station;
+      touched = now;
+    }
 
 -- a reserved link that a session takes
-unfoldable pub take_for : Session → ℕ → Option Bundle → BookLink → BookLink
-take_for session now bundle link =
-    record {
-      nas = link.nas;
-      holder = Bound session;
-      bundle = option_or link.bundle bundle;
-      touched
-          = now;
-    }
+unfoldable pub take_for : Session → ℕ → Option Bundle → Option (List ℕ) → BookLink → BookLink
+take_for session now bundle station link =
+    record (touch now bundle station link) { holder = Bound session }

@@ -6,8 +6,9 @@ use Rattle.rsl_event.specs.declared.nas.NasName.TheVariants.{Unnamed}
 use Rattle.rsl_session.specs.declared.session.Session.{Session}
 use Rattle.rsl_session.specs.Past.{Past}
 use Rattle.rsl_session.specs.Clock.{clock}
-use Rattle.rsl_session.specs.Link.{nas_at, number_at}
+use Rattle.rsl_session.specs.Link.{nas_at, number_at, opened_at}
 use Rattle.rsl_session.specs.Binding.{session_at, bundle_at}
+use Rattle.rsl_session.specs.Station.{station_at}
 use Rattle.rsl_session.specs.Touch.{touched_at}
 use Rattle.rsl_session.specs.Held.{held_links}
 use Rattle.rsl_session.specs.Ask.{KEPT_ASKS, accepts, fresh_asks}
@@ -33,6 +34,8 @@ link_view past link =
       nas = known_nas (nas_at link past);
       holder = holder_of (number_at link past) (session_at link past);
       bundle = bundle_at link past;
+      station = station_at link past;
+      opened = opened_at link past;
       touched = touched_at link past;
     }
 

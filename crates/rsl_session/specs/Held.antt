@@ -1,6 +1,6 @@
 -- A link is held until an event after the one that opened it ends it: the link lapses as the event
--- comes, or the event is a stop of its session, a sweep of its access server, or an ask to which
--- the link yields.
+-- comes, or the event is a stop of its session, a sweep of its access server that is told no later
+-- than the link is old, or an ask to which the link yields.
 use Rattle.std.specs.Prelude.{ℕ, List, [], ◌∷◌, length, filter, Bool, false, ◌&&◌, ◌||◌, ◌==◌, not, nat_le, Option, Some, None}
 use Rattle.rsl_accounts.specs.declared.rules.Rules.{Rules}
 use Rattle.rsl_event.specs.declared.event.Act.{Act}
@@ -11,7 +11,9 @@ use Rattle.rsl_session.specs.declared.outcome.Outcome.{Outcome}
 use Rattle.rsl_session.specs.declared.outcome.Outcome.TheVariants.{AcceptedInPlace}
 use Rattle.rsl_session.specs.Past.{Past}
 use Rattle.rsl_session.specs.Same.{same_nas}
-use Rattle.rsl_session.specs.Link.{links, nas_at}
+use Rattle.rsl_session.specs.Clock.{clock_at}
+use Rattle.rsl_session.specs.Sweep.{precedes}
+use Rattle.rsl_session.specs.Link.{links, nas_at, opened_at}
 use Rattle.rsl_session.specs.Binding.{is_bound_to}
 use Rattle.rsl_session.specs.Lapse.{lapses}
 
@@ -24,15 +26,18 @@ is_nas (Some other) nas = same_nas other nas
 unfoldable pub is_at : Past → Nas → ℕ → Bool
 is_at past nas link = is_nas (nas_at link past) nas
 
--- whether an act ends a link
-unfoldable pub ended_by : Past → Act → ℕ → Bool
-ended_by past (Stop nas session) link = is_bound_to past (record { nas = nas; id = session }) link
-ended_by past (Sweep nas) link = is_at past nas link
-ended_by past _ link = false
+-- whether an act, now, ends a link: a stop of its session, or a sweep of its access server, if it
+-- opened at least the delay ago
+unfoldable pub ended_by : Past → (now : ℕ) → Act → ℕ → Bool
+ended_by past now (Stop nas session) link =
+    is_bound_to past (record { nas = nas; id = session }) link
+ended_by past now (Sweep nas delay) link =
+    is_at past nas link && precedes (opened_at link past) delay now
+ended_by past now _ link = false
 
 -- whether a link ends at an event
 unfoldable pub ends : Rules → Past → Event → ℕ → Bool
-ends rules past event link = lapses rules past event link || ended_by past event.act link
+ends rules past event link = lapses rules past event link || ended_by past (clock_at past event) event.act link
 
 -- whether an event of this outcome makes a link yield
 unfoldable pub yields : ℕ → Outcome → Bool

@@ -1,10 +1,11 @@
 pub mod Same
 pub mod Past
-pub mod Sweep
 pub mod Clock
+pub mod Sweep
 pub mod Link
 pub mod Binding
 pub mod Touch
+pub mod Station
 pub mod Lapse
 pub mod Held
 pub mod Places

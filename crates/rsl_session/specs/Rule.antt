@@ -16,9 +16,9 @@ use Rattle.rsl_session.specs.Alive.{alive_outcome, link_of}
 
 -- what an event does, by its act
 abbrev pub outcome_by : Rules → Past → Event → Act → Outcome
-outcome_by rules past event (Ask key nas) =
+outcome_by rules past event (Ask key nas station) =
     ask_outcome rules past event (repeated_ask rules past event key)
-outcome_by rules past event (Alive nas id bundle class) =
+outcome_by rules past event (Alive nas id bundle class station) =
     alive_outcome rules past event (record { nas = nas; id = id }) class
     (link_of rules past event (record { nas = nas; id = id }))
 outcome_by rules past event _ = Passed

@@ -25,6 +25,8 @@ saved_link link =
       nas = link.nas;
       holder = saved_holder link.nas link.holder;
       bundle = saved_bundle link.nas link.bundle;
+      station = link.station;
+      opened = link.opened;
       touched = link.touched;
     }
 

@@ -23,7 +23,7 @@ pub struct KeptAsk {
     pub decision: Decision,
     /// The account's clock when it came.
     pub at: u64,
-    /// Whether its access server was swept since.
+    /// Whether a sweep voided it.
     pub swept: bool,
 }
 
@@ -34,6 +34,6 @@ pub struct KeptStop {
     pub session: Session,
     /// The account's clock when the stop came.
     pub at: u64,
-    /// Whether the session's access server was swept since.
+    /// Whether a sweep voided it.
     pub swept: bool,
 }

@@ -29,8 +29,8 @@ pub fn clock_law()
 {}
 
 /// The links law: the stepped book has the links that the past with the event holds, in the order
-/// in which they opened, each with its access server, its accept number or session, its bundle and
-/// its last touch.
+/// in which they opened, each with its access server, its accept number or session, its bundle, its
+/// station, its opening and its last touch.
 pub fn links_law()
     ensures { LinksLaw }
 {}
@@ -41,13 +41,13 @@ pub fn accept_number_law()
 {}
 
 /// The kept asks law: the stepped book keeps the last 8 fresh asks, each with its decision, its
-/// clock, and whether its access server was swept since.
+/// clock, and whether a sweep voided it.
 pub fn kept_asks_law()
     ensures { KeptAsksLaw }
 {}
 
-/// The kept stops law: the stepped book keeps the last 16 stops, each with its clock, and whether
-/// its access server was swept since.
+/// The kept stops law: the stepped book keeps the last 16 stops, each with its clock, and whether a
+/// sweep voided it.
 pub fn kept_stops_law()
     ensures { KeptStopsLaw }
 {}

@@ -5,12 +5,12 @@ use rsl_event::Decision;
 pub enum Outcome {
     /// A fresh ask was accepted with this number, and opened a reserved link.
     Accepted(u64),
-    /// A fresh ask that did not fit was accepted because a stale link yielded, and opened a
+    /// A fresh ask was accepted, to which a link of its station or a stale one yielded, and opened a
     /// reserved link.
     AcceptedInPlace {
         /// The accept number.
         number: u64,
-        /// The stale link, which yielded and ended.
+        /// The link that yielded and ended.
         yielded: usize,
     },
     /// A fresh ask was refused, because no place was free.

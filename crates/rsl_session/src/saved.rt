@@ -22,6 +22,11 @@ pub struct SavedLink {
     /// Its bundle, by its Acct-Multi-Session-Id (RFC 2866 section 5.11), if it was in one. The
     /// bundle is at the link's access server.
     pub bundle: Option<Octets>,
+    /// Its station: the last Calling-Station-Id (RFC 2865 section 5.31) with which it was touched, if
+    /// any.
+    pub station: Option<Octets>,
+    /// The account's clock when it opened, in seconds; 0 where that is not known.
+    pub opened: u64,
     /// The account's clock at its last touch, in seconds.
     pub touched: u64,
 }
