@@ -151,17 +151,17 @@ opened_within servers old new link limit r counted after is ports more within =
     let before = counted.places in
     omega arith
 
-pub reserved_seen : (servers : List Nas) (nas number touched : ℕ) (at : Nas) → server_at servers nas ≡ at
-    → (let link : Link = record { nas = nas; holder = LinkReserved number; bundle = None; touched = touched } in
-    let seen : BookLink = record { nas = at; holder = Reserved number; bundle = None; touched = touched } in link_seen servers link ≡ seen)
+pub reserved_seen : (servers : List Nas) (nas number clock : ℕ) (station : Option (List ℕ)) (at : Nas) → server_at servers nas ≡ at
+    → (let link : Link = record { nas = nas; holder = LinkReserved number; bundle = None; station = station; opened = clock; touched = clock } in
+    let seen : BookLink = record { nas = at; holder = Reserved number; bundle = None; station = station; opened = clock; touched = clock } in link_seen servers link ≡ seen)
 unfolding link_seen
-reserved_seen servers nas number touched at stands = rw stands refl
+reserved_seen servers nas number clock station at stands = rw stands refl
 
-pub as_saved_seen : (servers : List Nas) (nas touched : ℕ) (holder : LinkHolder) (bundle : Option (List ℕ)) (at : Nas) → server_at servers nas ≡ at
-    → (let link : Link = record { nas = nas; holder = holder; bundle = bundle; touched = touched } in
-    let seen : BookLink = record { nas = at; holder = holder_at at holder; bundle = bundle_with at bundle; touched = touched } in link_seen servers link ≡ seen)
+pub as_saved_seen : (servers : List Nas) (nas opened touched : ℕ) (holder : LinkHolder) (bundle station : Option (List ℕ)) (at : Nas) → server_at servers nas ≡ at
+    → (let link : Link = record { nas = nas; holder = holder; bundle = bundle; station = station; opened = opened; touched = touched } in
+    let seen : BookLink = record { nas = at; holder = holder_at at holder; bundle = bundle_with at bundle; station = station; opened = opened; touched = touched } in link_seen servers link ≡ seen)
 unfolding link_seen
-as_saved_seen servers nas touched holder bundle at stands = rw stands refl
+as_saved_seen servers nas opened touched holder bundle station at stands = rw stands refl
 
 -- no links take no place
 pub counted_none : (servers : List Nas) (links : Links) → links.list.items ≡ [] → links.places ≡ 0 → 1 ≤ links.ports → AreCounted servers links
@@ -194,36 +194,37 @@ open_sum old new links ports at r nas bundle same stands is counted more =
     ∙ sym (ap (λ (one : Nas). places_of links.ports (bundles_in (links_seen new links.list.items) ++ bundle_with one bundle ∷ [])) stands)
     ∙ more ∙ ap (λ seen. places_of links.ports (bundles_in seen) + r) same ∙ ap (λ n. n + r) (sym counted.places)
 
-pub open_yes : (rules : Rules) (book : Book) (session : Session) (bundle : Option Bundle) → places_of rules.ports (bundles_in book.links ++ bundle ∷ []) ≤ rules.places
-    → open_link rules book session bundle ≡ record book { links = book.links ++ record { nas = session.nas; holder = Bound session; bundle = bundle; touched = book.clock } ∷ [] }
+pub open_yes : (rules : Rules) (book : Book) (session : Session) (bundle : Option Bundle) (station : Option (List ℕ)) → places_of rules.ports (bundles_in book.links ++ bundle ∷ []) ≤ rules.places
+    → open_link rules book session bundle station
+    ≡ record book { links = book.links ++ record { nas = session.nas; holder = Bound session; bundle = bundle; station = station; opened = book.clock; touched = book.clock } ∷ [] }
 unfolding open_link
-open_yes rules book session bundle fits = rw (le-leb (places_of rules.ports (bundles_in book.links ++ bundle ∷ [])) rules.places fits) refl
+open_yes rules book session bundle station fits = rw (le-leb (places_of rules.ports (bundles_in book.links ++ bundle ∷ [])) rules.places fits) refl
 
-pub open_not : (rules : Rules) (book : Book) (session : Session) (bundle : Option Bundle) → rules.places < places_of rules.ports (bundles_in book.links ++ bundle ∷ [])
-    → open_link rules book session bundle ≡ record book { over = min (book.over + 1) (2 ^ 64 - 1) }
+pub open_not : (rules : Rules) (book : Book) (session : Session) (bundle : Option Bundle) (station : Option (List ℕ)) → rules.places < places_of rules.ports (bundles_in book.links ++ bundle ∷ [])
+    → open_link rules book session bundle station ≡ record book { over = min (book.over + 1) (2 ^ 64 - 1) }
 unfolding open_link
-open_not rules book session bundle full = rw (lt-leb (places_of rules.ports (bundles_in book.links ++ bundle ∷ [])) rules.places full) refl
+open_not rules book session bundle station full = rw (lt-leb (places_of rules.ports (bundles_in book.links ++ bundle ∷ [])) rules.places full) refl
 
 -- a book in which a link was opened, and one in which there was no place for it
-pub has_opened : (value new : RuledBook) (clock : ℕ) (nas : Nas) (id : List ℕ) (bundle : Option Bundle) → clock ≡ value.book.clock
+pub has_opened : (value new : RuledBook) (clock : ℕ) (nas : Nas) (id : List ℕ) (bundle : Option Bundle) (station : Option (List ℕ)) → clock ≡ value.book.clock
     → places_of value.rules.ports (bundles_in value.book.links ++ bundle ∷ []) ≤ value.rules.places
-    → new ≡ record value { book = record value.book { links = value.book.links ++ record { nas = nas; holder = Bound (record { nas = nas; id = id }); bundle = bundle; touched = clock } ∷ [] } }
-    → new ≡ record value { book = open_link value.rules value.book (record { nas = nas; id = id }) bundle }
-has_opened value new clock nas id bundle same fits is =
+    → new ≡ record value { book = record value.book { links = value.book.links ++ record { nas = nas; holder = Bound (record { nas = nas; id = id }); bundle = bundle; station = station; opened = clock; touched = clock } ∷ [] } }
+    → new ≡ record value { book = open_link value.rules value.book (record { nas = nas; id = id }) bundle station }
+has_opened value new clock nas id bundle station same fits is =
     is
-    ∙ ap (λ (now : ℕ). let made : RuledBook = record value { book = record value.book { links = value.book.links ++ record { nas = nas; holder = Bound (record { nas = nas; id = id }); bundle = bundle; touched = now } ∷ [] } } in made) same
+    ∙ ap (λ (now : ℕ). let made : RuledBook = record value { book = record value.book { links = value.book.links ++ record { nas = nas; holder = Bound (record { nas = nas; id = id }); bundle = bundle; station = station; opened = now; touched = now } ∷ [] } } in made) same
     ∙ ap (λ (book : Book). let made : RuledBook = record value { book = book } in made)
-    (sym (open_yes value.rules value.book (record { nas = nas; id = id }) bundle fits))
+    (sym (open_yes value.rules value.book (record { nas = nas; id = id }) bundle station fits))
 
-pub has_not_opened : (value new : RuledBook) (over : ℕ) (session : Session) (bundle : Option Bundle) → over ≡ min (value.book.over + 1) (2 ^ 64 - 1)
+pub has_not_opened : (value new : RuledBook) (over : ℕ) (session : Session) (bundle : Option Bundle) (station : Option (List ℕ)) → over ≡ min (value.book.over + 1) (2 ^ 64 - 1)
     → value.rules.places < places_of value.rules.ports (bundles_in value.book.links ++ bundle ∷ [])
     → new ≡ record value { book = record value.book { over = over } }
-    → new ≡ record value { book = open_link value.rules value.book session bundle }
-has_not_opened value new over session bundle counted full is =
+    → new ≡ record value { book = open_link value.rules value.book session bundle station }
+has_not_opened value new over session bundle station counted full is =
     is
     ∙ ap (λ (count : ℕ). let made : RuledBook = record value { book = record value.book { over = count } } in made) counted
     ∙ ap (λ (book : Book). let made : RuledBook = record value { book = book } in made)
-    (sym (open_not value.rules value.book session bundle full))
+    (sym (open_not value.rules value.book session bundle station full))
 
 pub length-asks : (servers : List Nas) (asks : List (Kept DecidedAsk)) → length (asks_seen servers asks) ≡ length asks
 unfolding asks_seen

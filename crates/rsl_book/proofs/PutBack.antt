@@ -33,10 +33,10 @@ abbrev pub with_stops : RuledBook → List KeptStop → RuledBook
 with_stops ruled stops = record ruled { book = record ruled.book { stops = stops } }
 
 -- a link as it was saved
-pub as_saved : (link : SavedLink) (nas : Nas) (holder : LinkHolder) (bundle : Option (List ℕ)) → nas ≡ link.nas → ((at : Nas) → holder_at at holder ≡ saved_holder at link.holder) → bundle ≡ link.bundle
-    → (let made : BookLink = record { nas = nas; holder = holder_at nas holder; bundle = bundle_with nas bundle; touched = link.touched } in made ≡ saved_link link)
+pub as_saved : (link : SavedLink) (nas : Nas) (holder : LinkHolder) (bundle station : Option (List ℕ)) → nas ≡ link.nas → ((at : Nas) → holder_at at holder ≡ saved_holder at link.holder) → bundle ≡ link.bundle → station ≡ link.station
+    → (let made : BookLink = record { nas = nas; holder = holder_at nas holder; bundle = bundle_with nas bundle; station = station; opened = link.opened; touched = link.touched } in made ≡ saved_link link)
 unfolding saved_link
-as_saved link nas holder bundle same_nas same_holder same_bundle = rw (same_holder nas, same_nas, same_bundle) refl
+as_saved link nas holder bundle station same_nas same_holder same_bundle same_station = rw (same_holder nas, same_nas, same_bundle, same_station) refl
 
 pub full_with : (ports limit : ℕ) (links : List BookLink) (link : SavedLink) (nas : Nas) (bundle : Option (List ℕ)) → nas ≡ link.nas → bundle ≡ link.bundle
     → limit < places_of ports (bundles_in links ++ bundle_with nas bundle ∷ []) → limit < places_of ports (bundles_in (links ++ saved_link link ∷ []))

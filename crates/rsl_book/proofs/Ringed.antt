@@ -87,10 +87,10 @@ prints_push {S = S} print kept own prints more all new are is pushed kept_too =
     pushed ∙ rw (are, is, kept_too) (ap (λ xs. buffer xs all.capacity) (take-map (λ (one : Kept S). print one.subject) all.capacity (kept ∷ all.items)))
 
 -- a sweep changes no fingerprint
-pub prints_swept : {S : Type 0} (print : S → ℕ) (servers : List Nas) (nas : Nas) (prints : Buffer ℕ) (all : Buffer (Kept S)) (swept : List (Kept S)) → prints ≡ buffer (map (λ (one : Kept S). print one.subject) all.items) all.capacity
-    → swept ≡ map (sweep_kept servers nas) all.items → prints ≡ buffer (map (λ (one : Kept S). print one.subject) swept) all.capacity
-prints_swept {S = S} print servers nas prints all swept are is =
-    are ∙ ap (λ xs. buffer xs all.capacity) (sym (ap (map (λ (one : Kept S). print one.subject)) is ∙ subjects_swept print servers nas all.items))
+pub prints_swept : {S : Type 0} (print : S → ℕ) (servers : List Nas) (nas : Nas) (delay now : ℕ) (prints : Buffer ℕ) (all : Buffer (Kept S)) (swept : List (Kept S)) → prints ≡ buffer (map (λ (one : Kept S). print one.subject) all.items) all.capacity
+    → swept ≡ map (sweep_kept servers nas delay now) all.items → prints ≡ buffer (map (λ (one : Kept S). print one.subject) swept) all.capacity
+prints_swept {S = S} print servers nas delay now prints all swept are is =
+    are ∙ ap (λ xs. buffer xs all.capacity) (sym (ap (map (λ (one : Kept S). print one.subject)) is ∙ subjects_swept print servers nas delay now all.items))
 
 -- two rings are seen as the same asks, or stops, where they are seen as the same
 map_over : {A B C : Type 0} (f : A → B) (g : B → C) (h : A → C) → ((x : A) → g (f x) ≡ h x) → (xs : List A) → map g (map f xs) ≡ map h xs

@@ -23,22 +23,22 @@ pub map_unchanged : {A B : Type 0} (f : A → B) (g : A → A) → ((x : A) → 
 map_unchanged f g same [] = refl
 map_unchanged f g same (x ∷ xs) = rw (same x) (ap (λ ys. f x ∷ ys) (map_unchanged f g same xs))
 
-pub subjects_swept : {S : Type 0} (print : S → ℕ) (servers : List Nas) (nas : Nas) (all : List (Kept S))
-    → map (λ (one : Kept S). print one.subject) (map (sweep_kept servers nas) all) ≡ map (λ (one : Kept S). print one.subject) all
+pub subjects_swept : {S : Type 0} (print : S → ℕ) (servers : List Nas) (nas : Nas) (delay now : ℕ) (all : List (Kept S))
+    → map (λ (one : Kept S). print one.subject) (map (sweep_kept servers nas delay now) all) ≡ map (λ (one : Kept S). print one.subject) all
 unfolding sweep_kept
-subjects_swept {S = S} print servers nas all = map_unchanged (λ (one : Kept S). print one.subject) (sweep_kept servers nas) (λ one. refl) all
+subjects_swept {S = S} print servers nas delay now all = map_unchanged (λ (one : Kept S). print one.subject) (sweep_kept servers nas delay now) (λ one. refl) all
 
 -- what is seen of them then
 map_through : {A B : Type 0} (f : A → B) (g : A → A) (h : B → B) → ((x : A) → f (g x) ≡ h (f x)) → (xs : List A) → map f (map g xs) ≡ map h (map f xs)
 map_through f g h same [] = refl
 map_through f g h same (x ∷ xs) = rw (same x) (ap (λ ys. h (f x) ∷ ys) (map_through f g h same xs))
 
-pub asks_swept : (servers : List Nas) (nas : Nas) (asks : List (Kept DecidedAsk)) → asks_seen servers (map (sweep_kept servers nas) asks) ≡ map (sweep_ask nas) (asks_seen servers asks)
+pub asks_swept : (servers : List Nas) (nas : Nas) (delay now : ℕ) (asks : List (Kept DecidedAsk)) → asks_seen servers (map (sweep_kept servers nas delay now) asks) ≡ map (sweep_ask nas delay now) (asks_seen servers asks)
 unfolding asks_seen ask_seen sweep_ask sweep_kept
-asks_swept servers nas asks = map_through (ask_seen servers) (sweep_kept servers nas) (sweep_ask nas) (λ ask. refl) asks
+asks_swept servers nas delay now asks = map_through (ask_seen servers) (sweep_kept servers nas delay now) (sweep_ask nas delay now) (λ ask. refl) asks
 
-pub stops_swept : (servers : List Nas) (nas : Nas) (stops : List (Kept EndedSession)) → stops_seen servers (map (sweep_kept servers nas) stops) ≡ map (sweep_stop nas) (stops_seen servers stops)
+pub stops_swept : (servers : List Nas) (nas : Nas) (delay now : ℕ) (stops : List (Kept EndedSession)) → stops_seen servers (map (sweep_kept servers nas delay now) stops) ≡ map (sweep_stop nas delay now) (stops_seen servers stops)
 unfolding stops_seen stop_seen sweep_stop sweep_kept
-stops_swept servers nas stops = map_through (stop_seen servers) (sweep_kept servers nas) (sweep_stop nas) (λ stop. refl) stops
+stops_swept servers nas delay now stops = map_through (stop_seen servers) (sweep_kept servers nas delay now) (sweep_stop nas delay now) (λ stop. refl) stops
 
 pub ruleset swept_steps = (changed_more, changed_all)

@@ -1,9 +1,10 @@
 -- The asks and stops that a book keeps: each names its access server by an index of a table.
-use Rattle.std.specs.Prelude.{ℕ, List, map, Bool, ◌||◌}
+use Rattle.std.specs.Prelude.{ℕ, List, map, Bool, ◌&&◌, ◌||◌}
 use Rattle.rsl_event.specs.declared.nas.Nas.{Nas}
 use Rattle.rsl_session.specs.declared.kept.KeptAsk.{KeptAsk}
 use Rattle.rsl_session.specs.declared.kept.KeptStop.{KeptStop}
 use Rattle.rsl_session.specs.Same.{same_nas}
+use Rattle.rsl_session.specs.Sweep.{precedes}
 use Rattle.rsl_book.specs.declared.kept.Kept.{Kept}
 use Rattle.rsl_book.specs.declared.kept.DecidedAsk.{DecidedAsk}
 use Rattle.rsl_book.specs.declared.kept.EndedSession.{EndedSession}
@@ -47,6 +48,10 @@ stop_seen servers stop =
 unfoldable pub stops_seen : List Nas → List (Kept EndedSession) → List KeptStop
 stops_seen servers stops = map (stop_seen servers) stops
 
--- a sweep of an access server
-unfoldable pub sweep_kept : {S : Type 0} → List Nas → Nas → Kept S → Kept S
-sweep_kept servers nas kept = record kept { swept = kept.swept || same_nas nas (server_at servers kept.nas) }
+-- a sweep of an access server, told some seconds late
+unfoldable pub sweep_kept : {S : Type 0} → List Nas → Nas → (delay now : ℕ) → Kept S → Kept S
+sweep_kept servers nas delay now kept =
+    record kept {
+      swept = kept.swept
+          || (same_nas nas (server_at servers kept.nas) && precedes kept.at delay now);
+    }

@@ -1,10 +1,10 @@
 ghost use Rattle.std.specs.Prelude.{◌≡◌, ◌↔◌, ◌+◌, ◌-◌, ◌*◌, ◌^◌, ◌<◌, ◌≤◌};
 ghost use Rattle.std.specs.Prelude.{Option, Some, None, [], ◌∷◌, ◌++◌, find, IfOk, IfSome, IfNone, IsTrue, IsFalse, OnErr, length};
-ghost use Rattle.std.specs.Prelude.{if◌then◌else◌};
+ghost use Rattle.std.specs.Prelude.{true, if◌then◌else◌};
 ghost use Rattle.std.specs.List.{list_any};
 ghost use Rattle.std.specs.Option.{option_map};
 ghost use Rattle.rsl_accounts.specs.Limits.{RulesFit};
-ghost use Rattle.rsl_event.specs.Copied.{ActHoldsOctets};
+ghost use Rattle.rsl_event.specs.Copied.{ActHoldsOctets, IsNamedWith};
 ghost use Rattle.rsl_event.specs.declared.event.Act.TheVariants.{Ask, Sweep, Tick};
 ghost use Rattle.rsl_event.specs.declared.event.Decision.TheVariants.{Done};
 ghost use Rattle.rsl_session.specs.declared.kept.KeptAsk.{KeptAsk};
@@ -13,9 +13,10 @@ ghost use Rattle.rsl_session.specs.Closed.{closes};
 ghost use Rattle.rsl_session.specs.Places.{places_of};
 ghost use Rattle.rsl_session.specs.Book.{new_book, places_in, bundles_in, reserved_in, live_in};
 ghost use Rattle.rsl_session.specs.Book.{stale_in};
-ghost use Rattle.rsl_session.specs.BookLinks.{is_link_of, can_be_taken, can_yield, fits_beside};
-ghost use Rattle.rsl_session.specs.BookLinks.{without_first};
-ghost use Rattle.rsl_session.specs.BookStep.{come_to, refuse, accept_beside, fresh_ask, ask};
+ghost use Rattle.rsl_session.specs.BookLinks.{is_link_of, can_be_taken, can_return, can_yield};
+ghost use Rattle.rsl_session.specs.BookLinks.{fits_beside};
+ghost use Rattle.rsl_session.specs.BookStep.{come_to, refuse, accept_beside, placed_ask};
+ghost use Rattle.rsl_session.specs.BookStep.{fresh_ask, ask};
 ghost use Rattle.rsl_session.specs.BookStep.{open_link, bind, alive, stop, sweep, act_on, step};
 ghost use Rattle.rsl_book.specs.RuledBook.{RuledBook, IsWithinLimit};
 ghost use Rattle.rsl_links.specs.First.{IsFirst, change_at};
@@ -86,6 +87,21 @@ fn most_links(rules: &Rules) -> usize
     (rules.places * rules.ports) as usize
 }
 
+/// An equal access server and an equal station. It fails only if memory is refused.
+fn copy_asker(
+    alloc: Global,
+    nas: &Nas,
+    station: &Option<Octets>,
+) -> Result<(Nas, Option<Octets>), NoMemory>
+    ensures copy { IfOk result (λ copy. (copy.0 ≡ nas.now) × (copy.1 ≡ station.now)) }
+    ensures refused { OnErr result (IsNamedWith station.now nas.now.name) }
+{
+    Ok((
+        nas.try_copy(alloc)?,
+        Octets::try_copy_option(alloc, station)?,
+    ))
+}
+
 impl Book {
     /// The book of an account that has had no event, with all the memory that it will ever use. It
     /// fails only if memory is refused.
@@ -124,7 +140,7 @@ impl Book {
     }
 
     /// `apply` of a borrowed event. It first copies what the book may keep: if memory is refused,
-    /// nothing has changed. It allocates only for names and ids of more than 22 octets.
+    /// nothing has changed. It allocates only for names, ids and stations of more than 22 octets.
     pub fn apply_lent(&mut self, alloc: Global, event: &Event) -> Result<Decision, NoMemory>
         ensures step { IfOk result (λ decision.
             (self.new.book, decision) ≡ step self.old.rules self.old.book event.now) }
@@ -136,8 +152,8 @@ impl Book {
     {
         self.open_invariant();
         match &event.act {
-            Act::Ask { key, nas } => match nas.try_copy(alloc) {
-                Ok(nas) => Ok(self.ask_at(event.moment, *key, nas)),
+            Act::Ask { key, nas, station } => match copy_asker(alloc, nas, station) {
+                Ok((nas, station)) => Ok(self.ask_at(event.moment, *key, nas, station)),
                 Err(NoMemory) => Err(NoMemory),
             },
             Act::Alive { .. } | Act::Stop { .. } | Act::Sweep { .. } | Act::Tick => {
@@ -150,14 +166,14 @@ impl Book {
     }
 
     /// Steps the book by an ask at a moment.
-    fn ask_at(&mut self, moment: u64, key: Key, nas: Nas) -> Decision
-        ensures step { (self.new.book, result) ≡
-            step self.old.rules self.old.book (record { moment = moment; act = Ask key nas }) }
+    fn ask_at(&mut self, moment: u64, key: Key, nas: Nas, station: Option<Octets>) -> Decision
+        ensures step { (self.new.book, result) ≡ step self.old.rules self.old.book
+            (record { moment = moment; act = Ask key nas station }) }
         ensures rules { self.new.rules ≡ self.old.rules }
         ensures limit { IsWithinLimit self.new }
     {
         self.come_to(moment);
-        let decision = self.ask(key, nas);
+        let decision = self.ask(key, nas, station);
         self.open_invariant();
         decision
     }
@@ -206,39 +222,41 @@ impl Book {
         ensures rules { self.new.rules ≡ self.old.rules }
     {
         match act {
-            Act::Ask { key, nas } => self.ask(key, nas),
+            Act::Ask { key, nas, station } => self.ask(key, nas, station),
             Act::Alive {
                 nas,
                 session,
                 bundle,
                 class,
+                station,
             } => {
-                self.alive(nas, session, bundle, class);
+                self.alive(nas, session, bundle, class, station);
                 Decision::Done
             }
             Act::Stop { nas, session } => {
                 self.stop(nas, session);
                 Decision::Done
             }
-            Act::Sweep { nas } => {
-                self.sweep_at(&nas);
+            Act::Sweep { nas, delay } => {
+                self.sweep_at(&nas, delay);
                 Decision::Done
             }
             Act::Tick => Decision::Done,
         }
     }
 
-    /// Steps the book by a sweep of an access server at this moment, as `apply` does.
-    pub fn sweep(&mut self, moment: u64, nas: &Nas)
-        ensures step { (self.new.book, Done) ≡
-            step self.old.rules self.old.book (record { moment = moment; act = Sweep nas.now }) }
+    /// Steps the book by a sweep of an access server at this moment, told `delay` seconds late, as
+    /// `apply` does.
+    pub fn sweep(&mut self, moment: u64, nas: &Nas, delay: u64)
+        ensures step { (self.new.book, Done) ≡ step self.old.rules self.old.book
+            (record { moment = moment; act = Sweep nas.now delay }) }
         ensures rules { self.new.rules ≡ self.old.rules }
         ensures limit_before { IsWithinLimit self.old }
         ensures limit { IsWithinLimit self.new }
     {
         self.open_invariant();
         self.come_to(moment);
-        self.sweep_at(nas);
+        self.sweep_at(nas, delay);
         self.open_invariant();
     }
 
@@ -371,11 +389,11 @@ impl Book {
     }
 
     /// Accepts a fresh ask. There is a place and a number for it.
-    fn accept(&mut self, key: Key, nas: Nas) -> Decision
+    fn accept(&mut self, key: Key, nas: Nas, station: Option<Octets>) -> Decision
         requires number { self.old.book.accepts < 2 ^ 64 - 1 }
         requires place { places_in self.old.rules self.old.book + 1 ≤ self.old.rules.places }
         ensures step { (self.new.book, result) ≡
-            accept_beside self.old.book.links self.old.book key nas }
+            accept_beside self.old.book.links self.old.book key nas station }
         ensures rules { self.new.rules ≡ self.old.rules }
     {
         let nas = index_for(
@@ -393,6 +411,8 @@ impl Book {
                 nas,
                 holder: Holder::Reserved(number),
                 bundle: None,
+                station,
+                opened: self.clock,
                 touched: self.clock,
             },
         );
@@ -442,41 +462,69 @@ impl Book {
         self.links.yielding(&self.servers, &self.rules, self.clock)
     }
 
-    /// Answers a fresh ask for which no place is free, by letting this link yield.
-    fn ask_in_place(&mut self, at: usize, key: Key, nas: Nas) -> Decision
-        requires number { self.old.book.accepts < 2 ^ 64 - 1 }
-        requires full { self.old.rules.places ≤ places_in self.old.rules self.old.book }
-        requires yields { IsFirst
-            (can_yield self.old.rules self.old.book.clock self.old.book.links) self.old.book.links
-            at }
-        ensures step { (self.new.book, result) ≡
-            (if fits_beside self.old.rules (without_first
-            (can_yield self.old.rules self.old.book.clock self.old.book.links) self.old.book.links)
-            then accept_beside (without_first
-            (can_yield self.old.rules self.old.book.clock self.old.book.links) self.old.book.links)
-            self.old.book key nas else refuse self.old.book key nas) }
-        ensures rules { self.new.rules ≡ self.old.rules }
+    /// The link that can yield to a station.
+    fn returning(&self, station: &Option<Octets>) -> Option<usize>
+        ensures found { IfSome result (λ at. IsFirst
+            (can_return station.now self.now.book.links) self.now.book.links at) }
+        ensures missed { IfNone result (find
+            (can_return station.now self.now.book.links) self.now.book.links ≡ None) }
     {
-        self.open_invariant();
-        if !self.frees_a_place(at) {
-            return self.refuse(key, nas);
-        }
-        self.end_link(at);
-        self.accept(key, nas)
+        self.links.returning(station)
     }
 
-    /// Answers a fresh ask for which there is an accept number.
-    fn fresh_ask(&mut self, key: Key, nas: Nas) -> Decision
+    /// Whether another link without a bundle fits once a link has ended.
+    fn fits_without(&self, at: usize) -> bool
+        requires { at < length self.now.book.links }
+        ensures { result ≡ fits_beside self.now.rules (without_at at self.now.book.links) }
+    {
+        self.held() - u64::from(self.frees_a_place(at)) < self.rules().places
+    }
+
+    /// Accepts a fresh ask to which this link yields. Another link fits once it has ended.
+    fn accept_in_place(
+        &mut self,
+        at: usize,
+        key: Key,
+        nas: Nas,
+        station: Option<Octets>,
+    ) -> Decision
+        requires number { self.old.book.accepts < 2 ^ 64 - 1 }
+        requires within { at < length self.old.book.links }
+        requires fits { fits_beside self.old.rules (without_at at self.old.book.links) ≡ true }
+        ensures step { (self.new.book, result) ≡
+            accept_beside (without_at at self.old.book.links) self.old.book key nas station }
+        ensures rules { self.new.rules ≡ self.old.rules }
+    {
+        self.end_link(at);
+        self.accept(key, nas, station)
+    }
+
+    /// Answers a fresh ask to which no link of its station yields.
+    fn placed_ask(&mut self, key: Key, nas: Nas, station: Option<Octets>) -> Decision
         requires { self.old.book.accepts < 2 ^ 64 - 1 }
-        ensures step { (self.new.book, result) ≡ fresh_ask self.old.rules self.old.book key nas }
+        ensures step { (self.new.book, result) ≡
+            placed_ask self.old.rules self.old.book key nas station }
         ensures rules { self.new.rules ≡ self.old.rules }
     {
         if self.held() < self.rules().places {
-            return self.accept(key, nas);
+            return self.accept(key, nas, station);
         }
         match self.yielding() {
-            None => self.refuse(key, nas),
-            Some(at) => self.ask_in_place(at, key, nas),
+            Some(at) if self.fits_without(at) => self.accept_in_place(at, key, nas, station),
+            _ => self.refuse(key, nas),
+        }
+    }
+
+    /// Answers a fresh ask for which there is an accept number.
+    fn fresh_ask(&mut self, key: Key, nas: Nas, station: Option<Octets>) -> Decision
+        requires { self.old.book.accepts < 2 ^ 64 - 1 }
+        ensures step { (self.new.book, result) ≡
+            fresh_ask self.old.rules self.old.book key nas station }
+        ensures rules { self.new.rules ≡ self.old.rules }
+    {
+        match self.returning(&station) {
+            Some(at) if self.fits_without(at) => self.accept_in_place(at, key, nas, station),
+            _ => self.placed_ask(key, nas, station),
         }
     }
 
@@ -497,27 +545,28 @@ impl Book {
     }
 
     /// Answers a fresh ask.
-    fn answer(&mut self, key: Key, nas: Nas) -> Decision
-        ensures step { (self.new.book, result) ≡ ask self.old.rules self.old.book key nas None }
+    fn answer(&mut self, key: Key, nas: Nas, station: Option<Octets>) -> Decision
+        ensures step { (self.new.book, result) ≡
+            ask self.old.rules self.old.book key nas station None }
         ensures rules { self.new.rules ≡ self.old.rules }
     {
         if self.accepts() < u64::MAX {
-            self.fresh_ask(key, nas)
+            self.fresh_ask(key, nas, station)
         } else {
             self.refuse(key, nas)
         }
     }
 
     /// Answers an ask.
-    fn ask(&mut self, key: Key, nas: Nas) -> Decision
+    fn ask(&mut self, key: Key, nas: Nas, station: Option<Octets>) -> Decision
         ensures step { (self.new.book, result) ≡
-            ask self.old.rules self.old.book key nas (find
+            ask self.old.rules self.old.book key nas station (find
             (repeats self.old.rules key self.old.book.clock) self.old.book.asks) }
         ensures rules { self.new.rules ≡ self.old.rules }
     {
         match self.repeated(&key) {
             Some(decision) => decision,
-            None => self.answer(key, nas),
+            None => self.answer(key, nas, station),
         }
     }
 
@@ -551,39 +600,42 @@ impl Book {
     }
 
     /// Touches a link.
-    fn touch_link(&mut self, at: usize, bundle: Option<Octets>)
+    fn touch_link(&mut self, at: usize, bundle: Option<Octets>, station: Option<Octets>)
         requires { at < length self.old.book.links }
         ensures { self.new ≡ record self.old {
           book = record self.old.book {
             links = change_at at
-                (touch_here self.old.book.clock bundle) self.old.book.links;
-          };
-        } }
-    {
-        self.links.touch_at(&self.servers, at, self.clock, bundle);
-    }
-
-    /// Binds a reserved link to the session of this id.
-    fn take_link(&mut self, at: usize, id: Octets, bundle: Option<Octets>)
-        requires { at < length self.old.book.links }
-        ensures { self.new ≡ record self.old {
-          book = record self.old.book {
-            links = change_at at
-                (take_here self.old.book.clock id bundle) self.old.book.links;
+                (touch_here self.old.book.clock bundle station) self.old.book.links;
           };
         } }
     {
         self.links
-            .take_at(&self.servers, at, self.clock, id, bundle);
+            .touch_at(&self.servers, at, self.clock, bundle, station);
     }
 
-    /// Opens a link with this last touch, if the places are then within the limit, and says whether
-    /// they are. If not, nothing has changed.
+    /// Binds a reserved link to the session of this id.
+    fn take_link(&mut self, at: usize, id: Octets, bundle: Option<Octets>, station: Option<Octets>)
+        requires { at < length self.old.book.links }
+        ensures { self.new ≡ record self.old {
+          book = record self.old.book {
+            links = change_at at
+                (take_here self.old.book.clock id bundle station) self.old.book.links;
+          };
+        } }
+    {
+        self.links
+            .take_at(&self.servers, at, self.clock, id, bundle, station);
+    }
+
+    /// Opens a link with these clocks of its opening and its last touch, if the places are then
+    /// within the limit, and says whether they are. If not, nothing has changed.
     fn open_touched(
         &mut self,
         nas: Nas,
         holder: Holder,
         bundle: Option<Octets>,
+        station: Option<Octets>,
+        opened: u64,
         touched: u64,
     ) -> bool
         ensures put { IsTrue result → self.new ≡ record self.old {
@@ -592,6 +644,8 @@ impl Book {
               nas = nas;
               holder = holder_at nas holder;
               bundle = bundle_with nas bundle;
+              station = station;
+              opened = opened;
               touched = touched;
             } ∷ [];
           };
@@ -619,56 +673,72 @@ impl Book {
                     nas,
                     holder,
                     bundle,
+                    station,
+                    opened,
                     touched,
                 },
             );
             true
         } else {
-            drop((holder, bundle));
+            drop((holder, bundle, station));
             false
         }
     }
 
     /// Opens a link for a session, if the places are then within the limit.
-    fn open_link(&mut self, nas: Nas, id: Octets, bundle: Option<Octets>)
+    fn open_link(&mut self, nas: Nas, id: Octets, bundle: Option<Octets>, station: Option<Octets>)
         ensures { self.new ≡ record self.old {
           book = open_link self.old.rules self.old.book
-              (record { nas = nas; id = id }) (bundle_with nas bundle);
+              (record { nas = nas; id = id }) (bundle_with nas bundle) station;
         } }
     {
         let now = self.clock;
-        if !self.open_touched(nas, Holder::Bound(id), bundle, now) {
+        if !self.open_touched(nas, Holder::Bound(id), bundle, station, now, now) {
             self.over = self.over.saturating_add(1);
         }
     }
 
     /// Steps the book by an alive of a session that is bound to no link, and is not closed.
-    fn bind(&mut self, nas: Nas, id: Octets, bundle: Option<Octets>, class: Option<u64>)
+    fn bind(
+        &mut self,
+        nas: Nas,
+        id: Octets,
+        bundle: Option<Octets>,
+        class: Option<u64>,
+        station: Option<Octets>,
+    )
         ensures { self.new ≡ record self.old {
           book = bind self.old.rules self.old.book
-              (record { nas = nas; id = id }) (bundle_with nas bundle) class (find
+              (record { nas = nas; id = id }) (bundle_with nas bundle) class station (find
               (can_be_taken nas class) self.old.book.links);
         } }
     {
         match self.reservation(&nas, class) {
-            Some(at) => self.take_link(at, id, bundle),
-            None => self.open_link(nas, id, bundle),
+            Some(at) => self.take_link(at, id, bundle, station),
+            None => self.open_link(nas, id, bundle, station),
         }
     }
 
     /// Steps the book by an alive.
-    fn alive(&mut self, nas: Nas, id: Octets, bundle: Option<Octets>, class: Option<u64>)
+    fn alive(
+        &mut self,
+        nas: Nas,
+        id: Octets,
+        bundle: Option<Octets>,
+        class: Option<u64>,
+        station: Option<Octets>,
+    )
         ensures { self.new ≡ record self.old {
           book = alive self.old.rules self.old.book
-              (record { nas = nas; id = id }) (bundle_with nas bundle) class (find (is_link_of
-              (record { nas = nas; id = id })) self.old.book.links);
+              (record { nas = nas; id = id }) (bundle_with nas bundle) class station (find
+              (is_link_of (record { nas = nas; id = id })) self.old.book.links);
         } }
     {
         match self.bound_to(&nas, &id) {
-            Some(at) => self.touch_link(at, bundle),
+            Some(at) => self.touch_link(at, bundle, station),
             None => {
                 if !self.is_closed(&nas, &id) {
-                    self.bind(nas, id, bundle, class);
+                    self.bind(nas, id, bundle, class, station);
                 }
             }
         }
@@ -697,12 +767,13 @@ impl Book {
         });
     }
 
-    /// Steps the book by a sweep of an access server.
-    fn sweep_at(&mut self, nas: &Nas)
-        ensures { self.new ≡ record self.old { book = sweep self.old.book nas.now } }
+    /// Steps the book by a sweep of an access server, told `delay` seconds late.
+    fn sweep_at(&mut self, nas: &Nas, delay: u64)
+        ensures { self.new ≡ record self.old { book = sweep self.old.book nas.now delay } }
     {
-        self.links.sweep(&self.servers, nas);
-        self.asks.sweep(&self.servers, nas);
-        self.stops.sweep(&self.servers, nas);
+        let now = self.clock;
+        self.links.sweep(&self.servers, nas, delay, now);
+        self.asks.sweep(&self.servers, nas, delay, now);
+        self.stops.sweep(&self.servers, nas, delay, now);
     }
 }

@@ -1,6 +1,7 @@
-ghost use Rattle.std.specs.Prelude.{◌≡◌, ◌↔◌, ℕ, IfOk, IsTrue, ◌||◌, length};
+ghost use Rattle.std.specs.Prelude.{◌≡◌, ◌↔◌, ℕ, IfOk, IsTrue, ◌&&◌, ◌||◌, length};
 ghost use Rattle.std.specs.Int.{w64, from_be_bytes};
 ghost use Rattle.rsl_session.specs.Same.{same_nas};
+ghost use Rattle.rsl_session.specs.Sweep.{precedes};
 ghost use Rattle.rsl_session.specs.Ask.{repeats};
 ghost use Rattle.rsl_session.specs.Closed.{closes};
 ghost use Rattle.rsl_links.specs.Seen.{server_at};
@@ -54,7 +55,7 @@ pub(crate) struct Kept<S: Subject> {
     pub subject: S,
     /// The clock when it came.
     pub at: u64,
-    /// Whether its access server was swept since.
+    /// Whether a sweep voided it.
     pub swept: bool,
     /// Its access server, by its index in the table.
     pub nas: usize,
@@ -155,13 +156,15 @@ impl<S: Subject> Kept<S> {
         })
     }
 
-    /// Notes a sweep of an access server.
-    pub(crate) fn sweep(&mut self, servers: &Servers, nas: &Nas)
+    /// Notes a sweep of an access server, told `delay` seconds late at this clock.
+    pub(crate) fn sweep(&mut self, servers: &Servers, nas: &Nas, delay: u64, now: u64)
         ensures { self.new ≡ record self.old {
-          swept = self.old.swept || same_nas nas.now (server_at servers.now self.old.nas);
+          swept = self.old.swept || (same_nas nas.now (server_at servers.now self.old.nas)
+              && precedes self.old.at delay now);
         } }
     {
-        self.swept = self.swept || servers.is_as(nas, self.nas);
+        self.swept = self.swept
+            || (servers.is_as(nas, self.nas) && delay <= now.saturating_sub(self.at));
     }
 }
 

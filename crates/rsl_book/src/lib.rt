@@ -7,8 +7,8 @@
 //!
 //! Inside, each link keeps its slot until it ends, the last asks and stops are in rings, and each
 //! access server is once in a table, by whose index the others name it. Orders of the slots lead
-//! from a session to its link, from an alive to its reservation, from a bundle to its links, to the
-//! links touched longest ago, and through all as they opened.
+//! from a session to its link, from an alive to its reservation, from a bundle and from a station to
+//! its links, to the links touched longest ago, and through all as they opened.
 #![tactic(auto)]
 
 mod book;

@@ -49,13 +49,13 @@ fn is_named_in<S: Subject>(all: &[Kept<S>], nas: usize) -> bool
     all.iter().any(|kept| kept.nas == nas)
 }
 
-/// Notes a sweep of an access server in each.
+/// Notes a sweep of an access server in each, told `delay` seconds late at this clock.
 #[tactic(auto, using(crate::proofs::Swept::swept_steps))]
-fn sweep_each<S: Subject>(all: &mut [Kept<S>], servers: &Servers, nas: &Nas)
-    ensures { all.new ≡ map (sweep_kept servers.now nas.now) all.old }
+fn sweep_each<S: Subject>(all: &mut [Kept<S>], servers: &Servers, nas: &Nas, delay: u64, now: u64)
+    ensures { all.new ≡ map (sweep_kept servers.now nas.now delay now) all.old }
 {
     for index in 0..all.len() {
-        all[index].sweep(servers, nas);
+        all[index].sweep(servers, nas, delay, now);
     }
 }
 
@@ -136,12 +136,12 @@ impl<S: Subject> Ring<S> {
         is_named_in(newer, nas) || is_named_in(older, nas)
     }
 
-    /// Notes a sweep of an access server.
-    pub(crate) fn sweep(&mut self, servers: &Servers, nas: &Nas)
-        ensures { self.new ≡
-            buffer (map (sweep_kept servers.now nas.now) self.old.items) self.old.capacity }
+    /// Notes a sweep of an access server, told `delay` seconds late at this clock.
+    pub(crate) fn sweep(&mut self, servers: &Servers, nas: &Nas, delay: u64, now: u64)
+        ensures { self.new ≡ buffer (map (sweep_kept servers.now nas.now delay now) self.old.items)
+            self.old.capacity }
     {
-        sweep_each(self.kept.make_contiguous(), servers, nas);
+        sweep_each(self.kept.make_contiguous(), servers, nas, delay, now);
     }
 
     /// Whether two rings keep equal ones at an index.

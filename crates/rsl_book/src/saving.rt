@@ -33,6 +33,8 @@ fn saved_link(alloc: Global, servers: &Servers, link: &Link) -> Result<SavedLink
         nas: servers.at(link.nas).try_copy(alloc)?,
         holder: saved_holder(alloc, &link.holder)?,
         bundle: Octets::try_copy_option(alloc, &link.bundle)?,
+        station: Octets::try_copy_option(alloc, &link.station)?,
+        opened: link.opened,
         touched: link.touched,
     })
 }

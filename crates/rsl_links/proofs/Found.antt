@@ -15,7 +15,7 @@ use Rattle.rsl_links.specs.declared.link.Holder.{Holder as LinkHolder}
 use Rattle.rsl_links.specs.declared.link.Holder.TheVariants.{Reserved as LinkReserved, Bound as LinkBound}
 use Rattle.rsl_links.specs.First.{IsFirst, change_at}
 use Rattle.rsl_links.specs.Seen.{server_at, holder_at, bundle_with, link_seen, links_seen}
-use Rattle.rsl_links.specs.Changed.{bound_link, joined_link, renewed_link, taken_link, touched_link}
+use Rattle.rsl_links.specs.Changed.{bound_link, joined_link, renewed_link, stationed_link, taken_link, touched_link}
 use Rattle.rsl_links.specs.Steps.{server_of, touch_here, take_here, without_at}
 
 module _ {A : Type 0} where
@@ -60,22 +60,33 @@ module _ {A : Type 0} where
   set_is_change f (z ∷ zs) zero x y within is changed = ap (λ w. w ∷ zs) (changed ∙ ap f is)
   set_is_change f (z ∷ zs) (suc at) x y within is changed = ap (λ ws. z ∷ ws) (set_is_change f zs at x y (omega arith) is changed)
 
+  -- a change that changes nothing there
+  pub change_same : (f : A → A) (xs : List A) (at : ℕ) (x : A) → at < length xs → x ≡ get_or xs at x → f x ≡ x → xs ≡ change_at at f xs
+  unfolding change_at
+  change_same f [] at x within is same = refl
+  change_same f (z ∷ zs) zero x within is same = ap (λ w. w ∷ zs) (sym is ∙ sym same ∙ ap f is)
+  change_same f (z ∷ zs) (suc at) x within is same = ap (λ ws. z ∷ ws) (change_same f zs at x (omega (arith, within)) is same)
+
   pub change_twice : (f g : A → A) (xs : List A) (at : ℕ) → change_at at f (change_at at g xs) ≡ change_at at (λ x. f (g x)) xs
   unfolding change_at
   change_twice f g [] at = refl
   change_twice f g (x ∷ xs) zero = refl
   change_twice f g (x ∷ xs) (suc at) = ap (λ ys. x ∷ ys) (change_twice f g xs at)
 
--- a link joins a bundle and is touched, or is bound and joins a bundle
-pub touched_after : (now : ℕ) (bundle : Option (List ℕ)) (xs ys zs : List Link) (at : ℕ) → ys ≡ change_at at (joined_link bundle) xs → zs ≡ change_at at (renewed_link now) ys → zs ≡ change_at at (touched_link now bundle) xs
-unfolding touched_link joined_link renewed_link
-touched_after now bundle xs ys zs at joined renewed =
-    renewed ∙ ap (change_at at (renewed_link now)) joined ∙ change_twice (renewed_link now) (joined_link bundle) xs at
+-- a link joins a bundle, gets a station and is touched; or is bound, joins a bundle and gets a station
+pub touched_after : (now : ℕ) (bundle station : Option (List ℕ)) (xs ys zs us : List Link) (at : ℕ) → ys ≡ change_at at (joined_link bundle) xs → zs ≡ change_at at (stationed_link station) ys → us ≡ change_at at (renewed_link now) zs
+    → us ≡ change_at at (touched_link now bundle station) xs
+unfolding touched_link joined_link stationed_link renewed_link
+touched_after now bundle station xs ys zs us at joined moved renewed =
+    renewed ∙ ap (change_at at (renewed_link now)) (moved ∙ ap (change_at at (stationed_link station)) joined ∙ change_twice (stationed_link station) (joined_link bundle) xs at)
+    ∙ change_twice (renewed_link now) (λ link. stationed_link station (joined_link bundle link)) xs at
 
-pub taken_after : (now : ℕ) (id : List ℕ) (bundle : Option (List ℕ)) (xs ys zs : List Link) (at : ℕ) → ys ≡ change_at at (bound_link now id) xs → zs ≡ change_at at (joined_link bundle) ys → zs ≡ change_at at (taken_link now id bundle) xs
-unfolding taken_link joined_link bound_link
-taken_after now id bundle xs ys zs at bound joined =
-    joined ∙ ap (change_at at (joined_link bundle)) bound ∙ change_twice (joined_link bundle) (bound_link now id) xs at
+pub taken_after : (now : ℕ) (id : List ℕ) (bundle station : Option (List ℕ)) (xs ys zs us : List Link) (at : ℕ) → ys ≡ change_at at (bound_link now id) xs → zs ≡ change_at at (joined_link bundle) ys → us ≡ change_at at (stationed_link station) zs
+    → us ≡ change_at at (taken_link now id bundle station) xs
+unfolding taken_link joined_link stationed_link bound_link
+taken_after now id bundle station xs ys zs us at bound joined moved =
+    moved ∙ ap (change_at at (stationed_link station)) (joined ∙ ap (change_at at (joined_link bundle)) bound ∙ change_twice (joined_link bundle) (bound_link now id) xs at)
+    ∙ change_twice (stationed_link station) (λ link. joined_link bundle (bound_link now id link)) xs at
 
 -- a link that has a bundle joins none
 or_same : (old new : Option (List ℕ)) → is_some old ≡ true → option_or old new ≡ old
@@ -83,10 +94,8 @@ or_same None new some = absurd (false≢true some)
 or_same (Some id) new some = refl
 
 pub joined_same : (bundle : Option (List ℕ)) (links : List Link) (at : ℕ) (x : Link) → at < length links → x ≡ get_or links at x → is_some x.bundle ≡ true → links ≡ change_at at (joined_link bundle) links
-unfolding change_at joined_link
-joined_same bundle [] at x within is some = refl
-joined_same bundle (y ∷ ys) zero x within is some = ap (λ (one : Link). one ∷ ys) (sym (ap (λ b. record y { bundle = b }) (or_same y.bundle bundle (ap (λ (one : Link). is_some one.bundle) (sym is) ∙ some))))
-joined_same bundle (y ∷ ys) (suc at) x within is some = ap (λ zs. y ∷ zs) (joined_same bundle ys at x (omega (arith, within)) is some)
+unfolding joined_link
+joined_same bundle links at x within is some = change_same (joined_link bundle) links at x within is (ap (λ b. record x { bundle = b }) (or_same x.bundle bundle some))
 
 -- and an alive that carries no bundle lets no link join one
 or_none : (old new : Option (List ℕ)) → is_some new ≡ false → option_or old new ≡ old
@@ -122,14 +131,14 @@ bundle_or : (nas : Nas) (old new : Option (List ℕ)) → bundle_with nas (optio
 bundle_or nas None new = refl
 bundle_or nas (Some id) new = refl
 
-pub seen_touched : (servers : List Nas) (now : ℕ) (bundle : Option (List ℕ)) (link : Link) → link_seen servers (touched_link now bundle link) ≡ touch_here now bundle (link_seen servers link)
+pub seen_touched : (servers : List Nas) (now : ℕ) (bundle station : Option (List ℕ)) (link : Link) → link_seen servers (touched_link now bundle station link) ≡ touch_here now bundle station (link_seen servers link)
 unfolding link_seen touched_link touch_here touch
-seen_touched servers now bundle link =
+seen_touched servers now bundle station link =
     rw (nas_kept (server_at servers link.nas) link.holder, bundle_or (server_at servers link.nas) link.bundle bundle) refl
 
-pub seen_taken : (servers : List Nas) (now : ℕ) (id : List ℕ) (bundle : Option (List ℕ)) (link : Link) → link_seen servers (taken_link now id bundle link) ≡ take_here now id bundle (link_seen servers link)
-unfolding link_seen taken_link take_here take_for
-seen_taken servers now id bundle link =
+pub seen_taken : (servers : List Nas) (now : ℕ) (id : List ℕ) (bundle station : Option (List ℕ)) (link : Link) → link_seen servers (taken_link now id bundle station link) ≡ take_here now id bundle station (link_seen servers link)
+unfolding link_seen taken_link take_here take_for touch
+seen_taken servers now id bundle station link =
     rw (nas_kept (server_at servers link.nas) link.holder, bundle_or (server_at servers link.nas) link.bundle bundle) refl
 
 -- the link that an alive finds is at its access server
@@ -137,17 +146,17 @@ holder_nas : (nas : Nas) (session : Session) (holder : Holder) → is_holder ses
 holder_nas nas session (Reserved number) is = absurd (false≢true is)
 holder_nas nas session (Bound other) is = ap (λ (one : Session). one.nas) (same_session-true other session is)
 
-pub touched_here : (session : Session) (now : ℕ) (bundle : Option (List ℕ)) (link : BookLink) → is_link_of session link ≡ true → touch_here now bundle link ≡ touch now (bundle_with session.nas bundle) link
+pub touched_here : (session : Session) (now : ℕ) (bundle station : Option (List ℕ)) (link : BookLink) → is_link_of session link ≡ true → touch_here now bundle station link ≡ touch now (bundle_with session.nas bundle) station link
 unfolding is_link_of touch_here
-touched_here session now bundle link is = ap (λ nas. touch now (bundle_with nas bundle) link) (holder_nas link.nas session link.holder is)
+touched_here session now bundle station link is = ap (λ nas. touch now (bundle_with nas bundle) station link) (holder_nas link.nas session link.holder is)
 
 wanted_nas : (link_nas nas : Nas) (class : Option ℕ) (holder : Holder) → (is_wanted class holder && same_nas link_nas nas) ≡ true → server_of link_nas holder ≡ nas
 wanted_nas link_nas nas class (Bound session) is = absurd (false≢true is)
 wanted_nas link_nas nas None (Reserved number) is = same_nas-true link_nas nas is
 wanted_nas link_nas nas (Some wanted) (Reserved number) is = same_nas-true link_nas nas (and_parts (number == wanted) (same_nas link_nas nas) is).1
 
-pub taken_here : (nas : Nas) (class : Option ℕ) (now : ℕ) (id : List ℕ) (bundle : Option (List ℕ)) (link : BookLink) → can_be_taken nas class link ≡ true
-    → take_here now id bundle link ≡ take_for (record { nas = nas; id = id }) now (bundle_with nas bundle) link
+pub taken_here : (nas : Nas) (class : Option ℕ) (now : ℕ) (id : List ℕ) (bundle station : Option (List ℕ)) (link : BookLink) → can_be_taken nas class link ≡ true
+    → take_here now id bundle station link ≡ take_for (record { nas = nas; id = id }) now (bundle_with nas bundle) station link
 unfolding can_be_taken take_here
-taken_here nas class now id bundle link is =
-    ap (λ (at : Nas). take_for (record { nas = at; id = id }) now (bundle_with at bundle) link) (wanted_nas link.nas nas class link.holder is)
+taken_here nas class now id bundle station link is =
+    ap (λ (at : Nas). take_for (record { nas = at; id = id }) now (bundle_with at bundle) station link) (wanted_nas link.nas nas class link.holder is)

@@ -19,14 +19,14 @@ use Rattle.rsl_links.specs.declared.link.Holder.{Holder as LinkHolder}
 use Rattle.rsl_links.specs.declared.link.Holder.TheVariants.{Reserved as LinkReserved, Bound as LinkBound}
 use Rattle.rsl_links.specs.Changed.{taken_link, touched_link}
 use Rattle.rsl_links.specs.First.{IsFirst, change_at}
-use Rattle.rsl_links.specs.LinkList.{is_bundle_id, is_for, is_held, is_id, is_member, is_wanted_holder}
+use Rattle.rsl_links.specs.LinkList.{has_octets, is_for, is_held, is_id, is_member, is_wanted_holder}
 use Rattle.rsl_links.specs.Named.{AreIndexed, IsIndex, named_by_links}
 use Rattle.rsl_links.specs.Order.{link_at, no_link}
 use Rattle.rsl_links.specs.Seen.{bundle_with, holder_at, link_seen, links_seen, server_at}
 use Rattle.rsl_links.proofs.Found.{length-change_at}
 use Rattle.rsl_links.proofs.Lists.{find_none}
 use Rattle.rsl_links.proofs.OfLinks.{link_here}
-use Rattle.rsl_links.proofs.Yielding.{any_none, any_nowhere}
+use Rattle.rsl_links.proofs.Yielding.{any_none, any_nowhere, nowhere_among}
 
 pub indexed_more : (servers : List Nas) (xs ys : List Link) (link : Link) → ys ≡ xs ++ link ∷ [] → IsIndex servers link.nas → AreIndexed servers xs → AreIndexed servers ys
 indexed_more servers xs ys link is here indexed x within =
@@ -53,13 +53,13 @@ indexed_changed servers f xs ys at is same indexed x within =
     let kept = length-change_at f xs at in
     subst (λ (n : ℕ). IsIndex servers n) (sym (ap (λ (zs : List Link). (link_at zs x).nas) is ∙ nas_kept f same xs at x)) (indexed x (omega (arith, within, long, kept)))
 
-pub indexed_touched : (servers : List Nas) (now : ℕ) (bundle : Option (List ℕ)) (xs ys : List Link) (at : ℕ) → ys ≡ change_at at (touched_link now bundle) xs → AreIndexed servers xs → AreIndexed servers ys
+pub indexed_touched : (servers : List Nas) (now : ℕ) (bundle station : Option (List ℕ)) (xs ys : List Link) (at : ℕ) → ys ≡ change_at at (touched_link now bundle station) xs → AreIndexed servers xs → AreIndexed servers ys
 unfolding touched_link
-indexed_touched servers now bundle xs ys at is indexed = indexed_changed servers (touched_link now bundle) xs ys at is (λ x. refl) indexed
+indexed_touched servers now bundle station xs ys at is indexed = indexed_changed servers (touched_link now bundle station) xs ys at is (λ x. refl) indexed
 
-pub indexed_taken : (servers : List Nas) (now : ℕ) (id : List ℕ) (bundle : Option (List ℕ)) (xs ys : List Link) (at : ℕ) → ys ≡ change_at at (taken_link now id bundle) xs → AreIndexed servers xs → AreIndexed servers ys
+pub indexed_taken : (servers : List Nas) (now : ℕ) (id : List ℕ) (bundle station : Option (List ℕ)) (xs ys : List Link) (at : ℕ) → ys ≡ change_at at (taken_link now id bundle station) xs → AreIndexed servers xs → AreIndexed servers ys
 unfolding taken_link
-indexed_taken servers now id bundle xs ys at is indexed = indexed_changed servers (taken_link now id bundle) xs ys at is (λ x. refl) indexed
+indexed_taken servers now id bundle station xs ys at is indexed = indexed_changed servers (taken_link now id bundle station) xs ys at is (λ x. refl) indexed
 
 pub indexed_none : (servers : List Nas) (xs : List Link) → xs ≡ [] → AreIndexed servers xs
 indexed_none servers xs none x within = absurd (let long = ap length none in omega (arith, within, long))
@@ -83,11 +83,6 @@ kept_index servers nas at index within nowhere other is =
         | inr apart ↦ is.first x low (sym (get_or-set_other servers at x nas _ apart) ∙ same ∙ here)
       ];
     }
-
-nowhere_among : (p : Link → Bool) (xs : List Link) (i : ℕ) → list_any p xs ≡ false → i < length xs → p (link_at xs i) ≡ false
-nowhere_among p [] i none within = absurd (omega (arith, within))
-nowhere_among p (x ∷ xs) zero none within = (or_parts (p x) (list_any p xs) none).0
-nowhere_among p (x ∷ xs) (suc i) none within = nowhere_among p xs i (or_parts (p x) (list_any p xs) none).1 (omega (arith, within))
 
 pub indexed_put : (servers : List Nas) (nas : Nas) (at : ℕ) (links : List Link) → at < length servers → ((x : ℕ) → x < length servers → server_at servers x ≢ nas) → named_by_links links at ≡ false
     → AreIndexed servers links → AreIndexed (set servers at nas) links
@@ -142,7 +137,7 @@ member_seen : (servers : List Nas) (id : List ℕ) (index : ℕ) (link : Link) �
     → is_bundle (record { nas = server_at servers index; id = id }) (link_seen servers link).bundle ≡ is_member index id link
 unfolding link_seen is_member same_bundle
 member_seen servers id index link is other = by_bundle link.bundle where
-  by_bundle : (bundle : Option (List ℕ)) → is_bundle (record { nas = server_at servers index; id = id }) (bundle_with (server_at servers link.nas) bundle) ≡ (link.nas == index && is_bundle_id id bundle)
+  by_bundle : (bundle : Option (List ℕ)) → is_bundle (record { nas = server_at servers index; id = id }) (bundle_with (server_at servers link.nas) bundle) ≡ (link.nas == index && has_octets id bundle)
   by_bundle None = sym (and-false (link.nas == index))
   by_bundle (Some own) = ap (λ b. b && same_octets own id) (same_index servers (server_at servers index) index link.nas is refl other)
 

@@ -18,6 +18,7 @@ pub mod Yielding
 pub mod Counting
 pub mod Sought
 pub mod Earliest
+pub mod Stationed
 pub mod Indexed
 pub mod Tallied
 mod Fingerprints

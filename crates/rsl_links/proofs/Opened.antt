@@ -157,13 +157,13 @@ bundles_alike servers f g [] at same = refl
 bundles_alike servers f g (x ∷ xs) zero same = ap (λ b. b ∷ map (λ (link : BookLink). link.bundle) (map (link_seen servers) xs)) (same x)
 bundles_alike servers f g (x ∷ xs) (suc at) same = ap (λ bs. (link_seen servers x).bundle ∷ bs) (bundles_alike servers f g xs at same)
 
-taken_bundle : (servers : List Nas) (now : ℕ) (id : List ℕ) (bundle : Option (List ℕ)) (link : Link) → (link_seen servers (taken_link now id bundle link)).bundle ≡ (link_seen servers (touched_link now bundle link)).bundle
+taken_bundle : (servers : List Nas) (now : ℕ) (id : List ℕ) (bundle station : Option (List ℕ)) (link : Link) → (link_seen servers (taken_link now id bundle station link)).bundle ≡ (link_seen servers (touched_link now bundle station link)).bundle
 unfolding link_seen taken_link touched_link
-taken_bundle servers now id bundle link = refl
+taken_bundle servers now id bundle station link = refl
 
-pub bundles_taken : (servers : List Nas) (now : ℕ) (id : List ℕ) (bundle : Option (List ℕ)) (xs : List Link) (at : ℕ)
-    → bundles_in (links_seen servers (change_at at (taken_link now id bundle) xs)) ≡ bundles_in (links_seen servers (change_at at (touched_link now bundle) xs))
-bundles_taken servers now id bundle xs at = bundles_alike servers (taken_link now id bundle) (touched_link now bundle) xs at (taken_bundle servers now id bundle)
+pub bundles_taken : (servers : List Nas) (now : ℕ) (id : List ℕ) (bundle station : Option (List ℕ)) (xs : List Link) (at : ℕ)
+    → bundles_in (links_seen servers (change_at at (taken_link now id bundle station) xs)) ≡ bundles_in (links_seen servers (change_at at (touched_link now bundle station) xs))
+bundles_taken servers now id bundle station xs at = bundles_alike servers (taken_link now id bundle station) (touched_link now bundle station) xs at (taken_bundle servers now id bundle station)
 
 -- a link that is touched keeps its bundle, if it has one
 or_some : (old new : Option Bundle) → is_none old ≡ false → option_or old new ≡ old
@@ -178,9 +178,9 @@ none_is : (old : Option Bundle) → is_none old ≡ true → old ≡ None
 none_is None has = refl
 none_is (Some bundle) has = absurd (false≢true has)
 
-touched_bundle : (servers : List Nas) (now : ℕ) (bundle : Option (List ℕ)) (link : Link) → (link_seen servers (touched_link now bundle link)).bundle ≡ option_or (link_seen servers link).bundle (bundle_with (server_at servers link.nas) bundle)
+touched_bundle : (servers : List Nas) (now : ℕ) (bundle station : Option (List ℕ)) (link : Link) → (link_seen servers (touched_link now bundle station link)).bundle ≡ option_or (link_seen servers link).bundle (bundle_with (server_at servers link.nas) bundle)
 unfolding link_seen touched_link
-touched_bundle servers now bundle link = by_cases (server_at servers link.nas) link.bundle where
+touched_bundle servers now bundle station link = by_cases (server_at servers link.nas) link.bundle where
   by_cases : (nas : Nas) (old : Option (List ℕ)) → bundle_with nas (option_or old bundle) ≡ option_or (bundle_with nas old) (bundle_with nas bundle)
   by_cases nas None = refl
   by_cases nas (Some id) = refl
@@ -192,37 +192,37 @@ seen_none servers link = by_cases (server_at servers link.nas) link.bundle where
   by_cases nas None = refl
   by_cases nas (Some id) = refl
 
-pub touched_alone : (servers : List Nas) (ports places r now : ℕ) (bundle : Option (List ℕ)) (xs : List Link) (at : ℕ) (x : Link) → 0 < ports → at < length xs → x ≡ get_or xs at x → is_none x.bundle ≡ true
+pub touched_alone : (servers : List Nas) (ports places r now : ℕ) (bundle station : Option (List ℕ)) (xs : List Link) (at : ℕ) (x : Link) → 0 < ports → at < length xs → x ≡ get_or xs at x → is_none x.bundle ≡ true
     → places ≡ places_of ports (bundles_in (links_seen servers xs))
     → places_of ports (bundles_in (links_seen servers xs) ++ bundle_with (server_at servers x.nas) bundle ∷ []) ≡ places_of ports (bundles_in (links_seen servers xs)) + r
-    → places_of ports (bundles_in (links_seen servers (set xs at (touched_link now bundle x)))) + 1 ≡ places + r
-touched_alone servers ports places r now bundle xs at x some within is none counted added =
+    → places_of ports (bundles_in (links_seen servers (set xs at (touched_link now bundle station x)))) + 1 ≡ places + r
+touched_alone servers ports places r now bundle station xs at x some within is none counted added =
     let before = bundles_in (links_seen servers (take at xs)) in
     let behind = bundles_in (links_seen servers (drop (at + 1) xs)) in
     let joined = bundle_with (server_at servers x.nas) bundle in
     let empty : (link_seen servers x).bundle ≡ None = none_is (link_seen servers x).bundle (seen_none servers x ∙ none) in
     let whole : bundles_in (links_seen servers xs) ≡ before ++ None ∷ behind = bundles-split servers xs at x within is ∙ ap (λ (b : Option Bundle). before ++ b ∷ behind) empty in
-    let now_in : (link_seen servers (touched_link now bundle x)).bundle ≡ joined = touched_bundle servers now bundle x ∙ ap (λ (b : Option Bundle). option_or b joined) empty in
-    let after : bundles_in (links_seen servers (set xs at (touched_link now bundle x))) ≡ before ++ joined ∷ behind =
-    ap (λ ys. bundles_in (links_seen servers ys)) (set_split xs at (touched_link now bundle x) within ∙ ap (λ ys. take at xs ++ touched_link now bundle x ∷ ys) (rw add-one refl))
-    ∙ bundles-append servers (take at xs) (touched_link now bundle x ∷ drop (at + 1) xs)
-    ∙ ap (λ ys. before ++ ys) (bundles-cons servers (touched_link now bundle x) (drop (at + 1) xs))
+    let now_in : (link_seen servers (touched_link now bundle station x)).bundle ≡ joined = touched_bundle servers now bundle station x ∙ ap (λ (b : Option Bundle). option_or b joined) empty in
+    let after : bundles_in (links_seen servers (set xs at (touched_link now bundle station x))) ≡ before ++ joined ∷ behind =
+    ap (λ ys. bundles_in (links_seen servers ys)) (set_split xs at (touched_link now bundle station x) within ∙ ap (λ ys. take at xs ++ touched_link now bundle station x ∷ ys) (rw add-one refl))
+    ∙ bundles-append servers (take at xs) (touched_link now bundle station x ∷ drop (at + 1) xs)
+    ∙ ap (λ ys. before ++ ys) (bundles-cons servers (touched_link now bundle station x) (drop (at + 1) xs))
     ∙ ap (λ (b : Option Bundle). before ++ b ∷ behind) now_in in
     let more : places_of ports ((before ++ None ∷ behind) ++ joined ∷ []) ≡ places_of ports (before ++ None ∷ behind) + r =
     subst (λ bs. places_of ports (bs ++ joined ∷ []) ≡ places_of ports bs + r) whole added in
     let result = places_joined ports r joined before behind some more in
     ap (λ bs. places_of ports bs + 1) after ∙ result ∙ ap (λ n. n + r) (ap (places_of ports) (sym whole) ∙ sym counted)
 
-pub touched_bundled : (servers : List Nas) (now : ℕ) (bundle : Option (List ℕ)) (xs : List Link) (at : ℕ) (x : Link) → at < length xs → x ≡ get_or xs at x → is_none x.bundle ≡ false
-    → bundles_in (links_seen servers (set xs at (touched_link now bundle x))) ≡ bundles_in (links_seen servers xs)
-touched_bundled servers now bundle xs at x within is has =
+pub touched_bundled : (servers : List Nas) (now : ℕ) (bundle station : Option (List ℕ)) (xs : List Link) (at : ℕ) (x : Link) → at < length xs → x ≡ get_or xs at x → is_none x.bundle ≡ false
+    → bundles_in (links_seen servers (set xs at (touched_link now bundle station x))) ≡ bundles_in (links_seen servers xs)
+touched_bundled servers now bundle station xs at x within is has =
     let before = bundles_in (links_seen servers (take at xs)) in
     let behind = bundles_in (links_seen servers (drop (at + 1) xs)) in
-    let same : (link_seen servers (touched_link now bundle x)).bundle ≡ (link_seen servers x).bundle =
-    touched_bundle servers now bundle x ∙ or_some (link_seen servers x).bundle (bundle_with (server_at servers x.nas) bundle) (seen_none servers x ∙ has) in
-    ap (λ ys. bundles_in (links_seen servers ys)) (set_split xs at (touched_link now bundle x) within ∙ ap (λ ys. take at xs ++ touched_link now bundle x ∷ ys) (rw add-one refl))
-    ∙ bundles-append servers (take at xs) (touched_link now bundle x ∷ drop (at + 1) xs)
-    ∙ ap (λ ys. before ++ ys) (bundles-cons servers (touched_link now bundle x) (drop (at + 1) xs))
+    let same : (link_seen servers (touched_link now bundle station x)).bundle ≡ (link_seen servers x).bundle =
+    touched_bundle servers now bundle station x ∙ or_some (link_seen servers x).bundle (bundle_with (server_at servers x.nas) bundle) (seen_none servers x ∙ has) in
+    ap (λ ys. bundles_in (links_seen servers ys)) (set_split xs at (touched_link now bundle station x) within ∙ ap (λ ys. take at xs ++ touched_link now bundle station x ∷ ys) (rw add-one refl))
+    ∙ bundles-append servers (take at xs) (touched_link now bundle station x ∷ drop (at + 1) xs)
+    ∙ ap (λ ys. before ++ ys) (bundles-cons servers (touched_link now bundle station x) (drop (at + 1) xs))
     ∙ ap (λ (b : Option Bundle). before ++ b ∷ behind) same ∙ sym (bundles-split servers xs at x within is)
 
 -- the links are at most the places of the limit with their ports

@@ -83,6 +83,10 @@ module _ (kind : OrderKind) (slots : List Slot) (opened : List ℕ) (r : IsRisin
       ap (slot_key kind slots) (read_ranked kind (links_in slots opened) opened but order ranked k within)
       ∙ ap (λ (one : Link). (order_key kind one, opened_in slots (get_or opened (get_or ranked.positions k 0) 0))) (sym (link_there slots opened (get_or ranked.positions k 0) (inside k within)))
 
+  pub link_ranked : (k : ℕ) → k < length order → link_in slots (get_or order k 0) ≡ link_at (links_in slots opened) (get_or ranked.positions k 0)
+  link_ranked k within =
+      ap (link_in slots) (read_ranked kind (links_in slots opened) opened but order ranked k within) ∙ sym (link_there slots opened (get_or ranked.positions k 0) (inside k within))
+
   pub searchable : IsSearchable kind slots order
   searchable =
       record {

@@ -14,9 +14,9 @@ use Rattle.rsl_links.specs.declared.link.Holder.TheVariants.{Reserved as LinkRes
 use Rattle.rsl_links.specs.declared.order.OrderKind.{OrderKind}
 use Rattle.rsl_links.specs.declared.order.OrderKind.TheVariants.{Bound, Sessions, Bundles}
 use Rattle.rsl_links.specs.First.{IsFirst}
-use Rattle.rsl_links.specs.LinkList.{is_bound_at, is_bound_until, is_bundle_id, is_for, is_held, is_id, is_member, is_wanted_holder}
+use Rattle.rsl_links.specs.LinkList.{is_bound_at, is_bound_until, has_octets, is_for, is_held, is_id, is_member, is_wanted_holder}
 use Rattle.rsl_links.specs.Named.{named_by_links}
-use Rattle.rsl_links.specs.Order.{Key, IsOrderOf, IsSplit, key_at, goes_by, id_of, id_of_bundle, is_before, is_of, holds_session, is_in_bundle, order_key, order_number, order_octets, link_at, no_link}
+use Rattle.rsl_links.specs.Order.{Key, IsOrderOf, IsSplit, key_at, goes_by, id_of, octets_of, is_before, is_of, holds_session, order_key, order_number, order_octets, link_at, no_link}
 use Rattle.rsl_links.proofs.Before.{alike_or_before, first_of_key, heads, later_target, lower_before, lower_first, lower_head, touched_order}
 use Rattle.rsl_links.proofs.Counting.{counted_between}
 use Rattle.rsl_links.proofs.Orders.{same_order}
@@ -29,7 +29,7 @@ parts_of true true false is = absurd (false≢true is)
 parts_of true false c is = absurd (false≢true is)
 parts_of false b c is = absurd (false≢true is)
 
-key_of : (kind : OrderKind) (number : ℕ) (octets : List ℕ) (link : Link) → goes_by kind number octets link ≡ true → (is_of kind link ≡ true) × (order_key kind link ≡ number ∷ octets)
+pub key_of : (kind : OrderKind) (number : ℕ) (octets : List ℕ) (link : Link) → goes_by kind number octets link ≡ true → (is_of kind link ≡ true) × (order_key kind link ≡ number ∷ octets)
 unfolding goes_by
 key_of kind number octets link is =
     let parts = parts_of (is_of kind link) (order_number kind link == number) (same_octets (order_octets kind link) octets) is in (
@@ -38,7 +38,7 @@ key_of kind number octets link is =
           ∙ ap (λ (own : List ℕ). number ∷ own) ((bytes_eq-Decides (order_octets kind link) octets).0 parts.1.1),
     )
 
-of_key : (kind : OrderKind) (number : ℕ) (octets : List ℕ) (link : Link) → is_of kind link ≡ true → order_key kind link ≡ number ∷ octets → goes_by kind number octets link ≡ true
+pub of_key : (kind : OrderKind) (number : ℕ) (octets : List ℕ) (link : Link) → is_of kind link ≡ true → order_key kind link ≡ number ∷ octets → goes_by kind number octets link ≡ true
 unfolding goes_by
 of_key kind number octets link of_kind key =
     rw (
@@ -51,10 +51,10 @@ of_key kind number octets link of_kind key =
 member_key : (nas : ℕ) (id : List ℕ) (link : Link) → is_member nas id link ≡ true → order_key Bundles link ≡ nas ∷ id
 unfolding is_member
 member_key nas id link member =
-    let parts = and_parts (link.nas == nas) (is_bundle_id id link.bundle) member in
-    ap (λ n. n ∷ id_of_bundle link.bundle) (eqb-true link.nas nas parts.0) ∙ by_bundle link.bundle parts.1
+    let parts = and_parts (link.nas == nas) (has_octets id link.bundle) member in
+    ap (λ n. n ∷ octets_of link.bundle) (eqb-true link.nas nas parts.0) ∙ by_bundle link.bundle parts.1
   where
-    by_bundle : (bundle : Option (List ℕ)) → is_bundle_id id bundle ≡ true → nas ∷ id_of_bundle bundle ≡ nas ∷ id
+    by_bundle : (bundle : Option (List ℕ)) → has_octets id bundle ≡ true → nas ∷ octets_of bundle ≡ nas ∷ id
     by_bundle None is = absurd (false≢true is)
     by_bundle (Some own) is = ap (λ octets. nas ∷ octets) ((bytes_eq-Decides own id).0 is)
 
@@ -63,14 +63,14 @@ unfolding is_member
 key_member nas id link in_one key =
     and_from _ _ (eq-eqb link.nas nas (ap (λ xs. get_or xs 0 0) key)) (by_bundle link.bundle in_one (ap (λ xs. drop 1 xs) key))
   where
-    by_bundle : (bundle : Option (List ℕ)) → is_in_bundle bundle ≡ true → id_of_bundle bundle ≡ id → is_bundle_id id bundle ≡ true
+    by_bundle : (bundle : Option (List ℕ)) → is_some bundle ≡ true → octets_of bundle ≡ id → has_octets id bundle ≡ true
     by_bundle None in_one same = absurd (false≢true in_one)
     by_bundle (Some own) in_one same = (bytes_eq-Decides own id).1 same
 
 no_member : (nas : ℕ) (id : List ℕ) (link : Link) → is_of Bundles link ≡ false → is_member nas id link ≡ false
 unfolding is_member
 no_member nas id link none = by_bundle link.bundle none where
-  by_bundle : (bundle : Option (List ℕ)) → is_in_bundle bundle ≡ false → (link.nas == nas && is_bundle_id id bundle) ≡ false
+  by_bundle : (bundle : Option (List ℕ)) → is_some bundle ≡ false → (link.nas == nas && has_octets id bundle) ≡ false
   by_bundle None none = and-false (link.nas == nas)
   by_bundle (Some own) none = absurd (false≢true (sym none))
 
@@ -207,31 +207,42 @@ not_below nas octets x before =
       | inr last ↦ not_empty octets x last.1
     ]
 
-module _ (links : List Link) (order : List ℕ) (o : IsOrderOf Bundles links order) where
-  module _ (nas : ℕ) (id : List ℕ) (first end : ℕ) (from : IsSplit (key_at Bundles links) order (nas ∷ id, 0) first) (to : IsSplit (key_at Bundles links) order (nas ∷ id, length links) end) where
-    pub in_turn : first ≤ end
-    in_turn = elim (cases_lt end first) [
-      | inl low ↦ absurd (
-          let inside : end < length order = let w = from.within in omega (arith, low, w) in
-          false≢true (sym (to.after end (omega arith) inside) ∙ later_target (order_key Bundles (link_at links (get_or order end 0))) (nas ∷ id) (get_or order end 0) 0 (length links) (omega arith) (from.before end low)))
-      | inr high ↦ high
-    ]
+-- the links of a sort key stand between two splits of its order
+module _ (kind : OrderKind) (links : List Link) (order : List ℕ) (o : IsOrderOf kind links order) (key : List ℕ) (first end : ℕ) (from : IsSplit (key_at kind links) order (key, 0) first) (to : IsSplit (key_at kind links) order (key, length links) end) where
+  pub in_turn : first ≤ end
+  in_turn = elim (cases_lt end first) [
+    | inl low ↦ absurd (
+        let inside : end < length order = let w = from.within in omega (arith, low, w) in
+        false≢true (sym (to.after end (omega arith) inside) ∙ later_target (order_key kind (link_at links (get_or order end 0))) key (get_or order end 0) 0 (length links) (omega arith) (from.before end low)))
+    | inr high ↦ high
+  ]
 
-    pub members_between : end - first ≡ count_by (is_member nas id) links
-    members_between =
-        counted_of Bundles (is_member nas id) links order first end o (λ link none. no_member nas id link none) in_turn to.within
-        (λ k low within. not_member (get_or order k 0) (is_member nas id (link_at links (get_or order k 0))) refl
-        (λ key. sym (first_of_key (nas ∷ id) (get_or order k 0)) ∙ subst (λ (t : List ℕ). is_before (t, get_or order k 0) (nas ∷ id, 0) ≡ true) key (from.before k low)))
-        (λ k high low within. elim (alike_or_before (order_key Bundles (link_at links (get_or order k 0))) (nas ∷ id) (get_or order k 0) (length links) (to.before k low)) [
-          | inl same ↦ key_member nas id (link_at links (get_or order k 0)) (o.each k within).of_kind same
-          | inr before ↦ absurd (false≢true (sym (from.after k high within) ∙ before))
-        ])
-        (λ k high within. not_member (get_or order k 0) (is_member nas id (link_at links (get_or order k 0))) refl
-        (λ key. sym (to.after k high within) ∙ subst (λ (t : List ℕ). is_before (t, get_or order k 0) (nas ∷ id, length links) ≡ true) (sym key) (lower_before (nas ∷ id) (get_or order k 0) (length links) (o.each k within).within)))
-      where
-        not_member : (x : ℕ) (b : Bool) → is_member nas id (link_at links x) ≡ b → (order_key Bundles (link_at links x) ≡ nas ∷ id → false ≡ true) → is_member nas id (link_at links x) ≡ false
-        not_member x false e other = e
-        not_member x true e other = absurd (false≢true (other (member_key nas id (link_at links x) e)))
+  pub alike_between : (k : ℕ) → first ≤ k → k < end → k < length order → order_key kind (link_at links (get_or order k 0)) ≡ key
+  alike_between k high low within =
+      elim (alike_or_before (order_key kind (link_at links (get_or order k 0))) key (get_or order k 0) (length links) (to.before k low)) [
+        | inl same ↦ same
+        | inr before ↦ absurd (false≢true (sym (from.after k high within) ∙ before))
+      ]
+
+  pub none_below : (k : ℕ) → k < first → order_key kind (link_at links (get_or order k 0)) ≡ key → false ≡ true
+  none_below k low same = sym (first_of_key key (get_or order k 0)) ∙ subst (λ (t : List ℕ). is_before (t, get_or order k 0) (key, 0) ≡ true) same (from.before k low)
+
+  pub none_above : (k : ℕ) → end ≤ k → k < length order → order_key kind (link_at links (get_or order k 0)) ≡ key → false ≡ true
+  none_above k high within same =
+      sym (to.after k high within)
+      ∙ subst (λ (t : List ℕ). is_before (t, get_or order k 0) (key, length links) ≡ true) (sym same) (lower_before key (get_or order k 0) (length links) (o.each k within).within)
+
+pub members_between : (links : List Link) (order : List ℕ) (o : IsOrderOf Bundles links order) (nas : ℕ) (id : List ℕ) (first end : ℕ) → IsSplit (key_at Bundles links) order (nas ∷ id, 0) first
+    → IsSplit (key_at Bundles links) order (nas ∷ id, length links) end → end - first ≡ count_by (is_member nas id) links
+members_between links order o nas id first end from to =
+    counted_of Bundles (is_member nas id) links order first end o (λ link none. no_member nas id link none) (in_turn Bundles links order o (nas ∷ id) first end from to) to.within
+    (λ k low within. not_member (get_or order k 0) (is_member nas id (link_at links (get_or order k 0))) refl (none_below Bundles links order o (nas ∷ id) first end from to k low))
+    (λ k high low within. key_member nas id (link_at links (get_or order k 0)) (o.each k within).of_kind (alike_between Bundles links order o (nas ∷ id) first end from to k high low within))
+    (λ k high within. not_member (get_or order k 0) (is_member nas id (link_at links (get_or order k 0))) refl (none_above Bundles links order o (nas ∷ id) first end from to k high within))
+  where
+    not_member : (x : ℕ) (b : Bool) → is_member nas id (link_at links x) ≡ b → (order_key Bundles (link_at links x) ≡ nas ∷ id → false ≡ true) → is_member nas id (link_at links x) ≡ false
+    not_member x false e other = e
+    not_member x true e other = absurd (false≢true (other (member_key nas id (link_at links x) e)))
 
 module _ (links : List Link) (order : List ℕ) (o : IsOrderOf Sessions links order) (nas rank : ℕ) (split : IsSplit (key_at Sessions links) order (nas ∷ [], 0) rank) where
   -- where a bound link names the index, the one at the split does

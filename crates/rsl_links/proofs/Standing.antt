@@ -9,7 +9,7 @@ use Rattle.rsl_links.specs.declared.link.Link.{Link}
 use Rattle.rsl_links.specs.declared.link.Holder.{Holder as LinkHolder}
 use Rattle.rsl_links.specs.declared.link.Holder.TheVariants.{Reserved as LinkReserved, Bound as LinkBound}
 use Rattle.rsl_links.specs.declared.order.OrderKind.{OrderKind}
-use Rattle.rsl_links.specs.declared.order.OrderKind.TheVariants.{Reserved, Bound, Sessions, Bundles}
+use Rattle.rsl_links.specs.declared.order.OrderKind.TheVariants.{Reserved, Bound, Sessions, Bundles, Stations}
 use Rattle.rsl_links.specs.Order.{key_at, is_before, is_by_touch, holds_number, is_of, holds_session, link_at, IsOrderOf}
 use Rattle.rsl_links.specs.LinkList.{IsOldest}
 use Rattle.rsl_links.specs.Seen.{holder_at, link_seen, server_at}
@@ -30,6 +30,7 @@ time_kept rules Reserved is n m f x one two = numbers_alike rules n m f.holder x
 time_kept rules Bound is n m f x one two = sessions_alike rules n m f.holder x.holder one two
 time_kept rules Sessions is n m f x one two = absurd (false≢true is)
 time_kept rules Bundles is n m f x one two = absurd (false≢true is)
+time_kept rules Stations is n m f x one two = absurd (false≢true is)
 
 stays : (time a b now : ℕ) → a ≤ b → nat_le time (now - a) ≡ false → nat_le time (now - b) ≡ false
 stays time a b now later none =
@@ -51,6 +52,7 @@ by_touch Reserved is links a b h = h
 by_touch Bound is links a b h = h
 by_touch Sessions is links a b h = absurd (false≢true is)
 by_touch Bundles is links a b h = absurd (false≢true is)
+by_touch Stations is links a b h = absurd (false≢true is)
 
 -- the first of an order was touched no later than any other
 pub first_touched : (kind : OrderKind) → is_by_touch kind ≡ true → (links : List Link) (order : List ℕ) → IsOrderOf kind links order → (x : ℕ) → x < length links → is_of kind (link_at links x) ≡ true
@@ -84,12 +86,12 @@ none_of kind links order o empty x within = by_cases (is_of kind (link_at links 
       absurd (let s = o.all x (record { within = within; other = omega (arith, within); of_kind = e }) in let w = s.within in omega (arith, w, empty))
   by_cases false e = e
 
-pub oldest_first : (links : List Link) (order : List ℕ) → IsOrderOf Bound links order → 0 < length order → IsOldest links (get_or order 0 0)
+pub oldest_first : (links : List Link) (order : List ℕ) → IsOrderOf Bound links order → 0 < length order → IsOldest (is_of Bound) links (get_or order 0 0)
 oldest_first links order o some =
     let front = o.each 0 some in
     record {
       within = front.within;
-      bound = front.of_kind;
+      passed = front.of_kind;
       oldest = λ x within here. elim (first_touched Bound refl links order o x within here) [
         | inl same ↦ (let e = ap (λ n. (link_at links n).touched) same in omega (arith, e))
         | inr rest ↦ elim rest [
@@ -118,14 +120,14 @@ each_holder : (holder : LinkHolder) → (holds_number holder ≡ true) ⊎ (hold
 each_holder (LinkReserved number) = inl refl
 each_holder (LinkBound id) = inr refl
 
-pub none_lapses_of_both : (servers : List Nas) (rules : Rules) (now : ℕ) (links : List Link) (one two : OrderKind) → one ≡ Reserved → two ≡ Bound
-    → ((at : ℕ) → at < length links → is_of one (link_at links at) ≡ true → lapses_at rules now (link_seen servers (link_at links at)) ≡ false)
-    → ((at : ℕ) → at < length links → is_of two (link_at links at) ≡ true → lapses_at rules now (link_seen servers (link_at links at)) ≡ false)
+pub none_lapses_of_both : (servers : List Nas) (rules : Rules) (now : ℕ) (links : List Link)
+    → ((at : ℕ) → at < length links → is_of Reserved (link_at links at) ≡ true → lapses_at rules now (link_seen servers (link_at links at)) ≡ false)
+    → ((at : ℕ) → at < length links → is_of Bound (link_at links at) ≡ true → lapses_at rules now (link_seen servers (link_at links at)) ≡ false)
     → (at : ℕ) → at < length links → lapses_at rules now (link_seen servers (link_at links at)) ≡ false
-none_lapses_of_both servers rules now links one two reserved bound none_reserved none_bound at within =
+none_lapses_of_both servers rules now links none_reserved none_bound at within =
     elim (each_holder (link_at links at).holder) [
-      | inl is ↦ none_reserved at within (ap (λ (kind : OrderKind). is_of kind (link_at links at)) reserved ∙ is)
-      | inr is ↦ none_bound at within (ap (λ (kind : OrderKind). is_of kind (link_at links at)) bound ∙ is)
+      | inl is ↦ none_reserved at within is
+      | inr is ↦ none_bound at within is
     ]
 
 -- what stands where nothing was found

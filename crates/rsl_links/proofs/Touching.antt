@@ -25,21 +25,21 @@ counted_open servers ports places new r link xs ys is counted added sum =
     ap (λ zs. bundles_in (links_seen servers zs)) is ∙ bundles-push servers link xs ∙ ap (λ b. bundles_in (links_seen servers xs) ++ b ∷ []) (own_bundle servers link) in
     sum ∙ ap (λ n. n + r) counted ∙ sym added ∙ ap (places_of ports) (sym all)
 
-pub joins_bundled : (servers : List Nas) (ports now : ℕ) (bundle : Option (List ℕ)) (xs : List Link) (at : ℕ) (x : Link) → at < length xs → x ≡ get_or xs at x → is_none x.bundle ≡ false
-    → places_of ports (bundles_in (links_seen servers (change_at at (touched_link now bundle) xs))) + 0 ≡ places_of ports (bundles_in (links_seen servers xs))
-joins_bundled servers ports now bundle xs at x within is has =
-    let same : bundles_in (links_seen servers (change_at at (touched_link now bundle) xs)) ≡ bundles_in (links_seen servers xs) =
-    ap (λ ys. bundles_in (links_seen servers ys)) (sym (set_is_change (touched_link now bundle) xs at x (touched_link now bundle x) within is refl)) ∙ touched_bundled servers now bundle xs at x within is has in
+pub joins_bundled : (servers : List Nas) (ports now : ℕ) (bundle station : Option (List ℕ)) (xs : List Link) (at : ℕ) (x : Link) → at < length xs → x ≡ get_or xs at x → is_none x.bundle ≡ false
+    → places_of ports (bundles_in (links_seen servers (change_at at (touched_link now bundle station) xs))) + 0 ≡ places_of ports (bundles_in (links_seen servers xs))
+joins_bundled servers ports now bundle station xs at x within is has =
+    let same : bundles_in (links_seen servers (change_at at (touched_link now bundle station) xs)) ≡ bundles_in (links_seen servers xs) =
+    ap (λ ys. bundles_in (links_seen servers ys)) (sym (set_is_change (touched_link now bundle station) xs at x (touched_link now bundle station x) within is refl)) ∙ touched_bundled servers now bundle station xs at x within is has in
     let equal = ap (places_of ports) same in
     omega arith
 
-pub joins_alone : (servers : List Nas) (ports now : ℕ) (bundle : Option (List ℕ)) (xs : List Link) (at : ℕ) (x : Link) (adds : Bool) → 0 < ports → at < length xs → x ≡ get_or xs at x → is_none x.bundle ≡ true
+pub joins_alone : (servers : List Nas) (ports now : ℕ) (bundle station : Option (List ℕ)) (xs : List Link) (at : ℕ) (x : Link) (adds : Bool) → 0 < ports → at < length xs → x ≡ get_or xs at x → is_none x.bundle ≡ true
     → places_of ports (bundles_in (links_seen servers xs) ++ bundle_with (server_at servers x.nas) bundle ∷ []) ≡ places_of ports (bundles_in (links_seen servers xs)) + cond adds 1 0
-    → places_of ports (bundles_in (links_seen servers (change_at at (touched_link now bundle) xs))) + cond (not adds) 1 0 ≡ places_of ports (bundles_in (links_seen servers xs))
-joins_alone servers ports now bundle xs at x adds some within is none added =
-    let more = touched_alone servers ports (places_of ports (bundles_in (links_seen servers xs))) (cond adds 1 0) now bundle xs at x some within is none refl added in
-    let same : places_of ports (bundles_in (links_seen servers (change_at at (touched_link now bundle) xs))) ≡ places_of ports (bundles_in (links_seen servers (set xs at (touched_link now bundle x)))) =
-    ap (λ ys. places_of ports (bundles_in (links_seen servers ys))) (sym (set_is_change (touched_link now bundle) xs at x (touched_link now bundle x) within is refl)) in
+    → places_of ports (bundles_in (links_seen servers (change_at at (touched_link now bundle station) xs))) + cond (not adds) 1 0 ≡ places_of ports (bundles_in (links_seen servers xs))
+joins_alone servers ports now bundle station xs at x adds some within is none added =
+    let more = touched_alone servers ports (places_of ports (bundles_in (links_seen servers xs))) (cond adds 1 0) now bundle station xs at x some within is none refl added in
+    let same : places_of ports (bundles_in (links_seen servers (change_at at (touched_link now bundle station) xs))) ≡ places_of ports (bundles_in (links_seen servers (set xs at (touched_link now bundle station x)))) =
+    ap (λ ys. places_of ports (bundles_in (links_seen servers ys))) (sym (set_is_change (touched_link now bundle station) xs at x (touched_link now bundle station x) within is refl)) in
     by_cases adds same more where
       by_cases : (b : Bool) {new old all : ℕ} → new ≡ old → old + 1 ≡ all + cond b 1 0 → new + cond (not b) 1 0 ≡ all
       by_cases true e m = omega (arith, e, m)

@@ -1,22 +1,24 @@
 -- The links that lapse, and the one that yields, found by what the first of an order tells.
 use Rattle.std.proofs.Common.{◌≡◌, ℕ, zero, suc, ◌+◌, ◌-◌, ◌<◌, ◌≤◌, List, [], ◌∷◌, ◌++◌, take, drop, get_or, length, length-append, length-drop, Bool, true, false, cond, not, refl, ap, sym, ◌∙◌, subst, arith, add-one, inl, inr}
-use Rattle.std.specs.Prelude.{filter, find, nat_le, None, Some}
+use Rattle.std.specs.Prelude.{Option, filter, find, nat_le, None, Some}
 use Rattle.std.proofs.lemmas.Option.{none-some}
 use Rattle.std.specs.List.{list_any, list_all}
-use Rattle.std.proofs.lemmas.Bool.{false≢true, and_parts, and_from, cases_lt, lt-leb, le-leb}
+use Rattle.std.proofs.lemmas.Bool.{false≢true, and_parts, and_from, or_parts, cases_lt, lt-leb, le-leb}
 use Rattle.std.proofs.lemmas.List.{get_or-map, length-map, length-take-le}
 use Rattle.rsl_accounts.specs.declared.rules.Rules.{Rules}
 use Rattle.rsl_event.specs.declared.nas.Nas.{Nas}
 use Rattle.rsl_session.specs.Book.{BookLink, is_bound, is_stale_at}
-use Rattle.rsl_session.specs.BookLinks.{can_yield, lapses_at}
+use Rattle.rsl_session.specs.BookLinks.{can_return, can_yield, is_oldest, is_stationed, lapses_at}
+use Rattle.rsl_session.specs.Station.{same_station}
 use Rattle.rsl_links.specs.declared.link.Link.{Link}
 use Rattle.rsl_links.specs.declared.link.Holder.{Holder as LinkHolder}
 use Rattle.rsl_links.specs.declared.link.Holder.TheVariants.{Reserved as LinkReserved, Bound as LinkBound}
 use Rattle.rsl_links.specs.declared.links.Links.{Links}
+use Rattle.rsl_links.specs.declared.order.OrderKind.TheVariants.{Bound}
 use Rattle.rsl_links.specs.Counted.{AreCounted}
 use Rattle.rsl_links.specs.First.{IsFirst}
-use Rattle.rsl_links.specs.LinkList.{IsOldest}
-use Rattle.rsl_links.specs.Order.{holds_session, link_at, no_link}
+use Rattle.rsl_links.specs.LinkList.{IsOldest, has_octets, is_of_station}
+use Rattle.rsl_links.specs.Order.{holds_session, is_of, link_at, no_link}
 use Rattle.rsl_links.specs.Seen.{holder_at, link_seen, links_seen, server_at}
 use Rattle.rsl_links.proofs.Lists.{find_none}
 use Rattle.rsl_links.proofs.Stepping.{seen_without}
@@ -56,6 +58,11 @@ module _ {B : Type 0} where
     rest : (b : Bool) → list_all q (cond b (x ∷ filter t xs) (filter t xs)) ≡ true → list_all q (filter t xs) ≡ true
     rest true some = (and_parts (q x) (list_all q (filter t xs)) some).1
     rest false some = some
+
+pub nowhere_among : (p : Link → Bool) (xs : List Link) (i : ℕ) → list_any p xs ≡ false → i < length xs → p (link_at xs i) ≡ false
+nowhere_among p [] i none within = absurd (omega (arith, within))
+nowhere_among p (x ∷ xs) zero none within = (or_parts (p x) (list_any p xs) none).0
+nowhere_among p (x ∷ xs) (suc i) none within = nowhere_among p xs i (or_parts (p x) (list_any p xs) none).1 (omega (arith, within))
 
 read_seen : (servers : List Nas) (links : List Link) (i : ℕ) (d : BookLink) → i < length links → get_or (links_seen servers links) i d ≡ link_seen servers (link_at links i)
 unfolding links_seen
@@ -144,6 +151,59 @@ touched_seen : (servers : List Nas) (link : Link) → (link_seen servers link).t
 unfolding link_seen
 touched_seen servers link = refl
 
+-- of links that pass a test the one touched longest ago, where all that pass another pass the first
+module _ (servers : List Nas) (links : List Link) (p : BookLink → Bool) where
+  pub first_oldest : (q : Link → Bool) → ((link : Link) → p (link_seen servers link) ≡ true → q link ≡ true) → (at : ℕ) → IsOldest q links at → p (link_seen servers (link_at links at)) ≡ true
+      → IsFirst (is_oldest p (links_seen servers links)) (links_seen servers links) at
+  unfolding is_oldest
+  first_oldest q among at oldest here =
+      let long = length_seen servers links in
+      let front = oldest.within in
+      record {
+        within = omega (arith, front, long);
+        passed = λ d. subst (λ (one : BookLink). is_oldest p (links_seen servers links) one ≡ true) (sym (read_seen servers links at d front))
+            (and_from _ _ here (all_of (λ (other : BookLink). nat_le (link_seen servers (link_at links at)).touched other.touched) p (links_seen servers links)
+            (λ i d within passes.
+            let inside : i < length links = omega (arith, within, long) in
+            let read = read_seen servers links i d inside in
+            let own : p (link_seen servers (link_at links i)) ≡ true = subst (λ (one : BookLink). p one ≡ true) read passes in
+            subst (λ (one : BookLink). nat_le (link_seen servers (link_at links at)).touched one.touched ≡ true) (sym read)
+            (least i inside (among (link_at links i) own)))));
+        before = any_none (is_oldest p (links_seen servers links)) (links_seen servers links) at
+            (λ i d low within. earlier i (omega (arith, within, long)) low (get_or (links_seen servers links) i d) (read_seen servers links i d (omega (arith, within, long))));
+      }
+    where
+      least : (i : ℕ) → i < length links → q (link_at links i) ≡ true → nat_le (link_seen servers (link_at links at)).touched (link_seen servers (link_at links i)).touched ≡ true
+      least i inside passes =
+          le-leb _ _ (let later = oldest.oldest i inside passes in let mine = touched_seen servers (link_at links at) in let its = touched_seen servers (link_at links i) in omega (arith, later, mine, its))
+
+      earlier : (i : ℕ) → i < length links → i < at → (one : BookLink) → one ≡ link_seen servers (link_at links i) → is_oldest p (links_seen servers links) one ≡ false
+      earlier i inside low one read = by_cases (is_oldest p (links_seen servers links) one) refl where
+        by_cases : (b : Bool) → is_oldest p (links_seen servers links) one ≡ b → is_oldest p (links_seen servers links) one ≡ false
+        by_cases false e = e
+        by_cases true e =
+            let parts = and_parts (p one) (list_all (λ (other : BookLink). nat_le one.touched other.touched) (filter p (links_seen servers links))) e in
+            let own : p (link_seen servers (link_at links i)) ≡ true = subst (λ (x : BookLink). p x ≡ true) read parts.0 in
+            let less = oldest.first i low (among (link_at links i) own) in
+            let there = read_seen servers links at one oldest.within in
+            let long = length_seen servers links in
+            let front = oldest.within in
+            let no_later = one_of (λ (other : BookLink). nat_le one.touched other.touched) p (links_seen servers links) at one parts.1 (omega (arith, front, long))
+            (subst (λ (x : BookLink). p x ≡ true) (sym there) here) in
+            let mine : one.touched ≡ (link_at links i).touched = ap (λ (x : BookLink). x.touched) read ∙ touched_seen servers (link_at links i) in
+            let its : (get_or (links_seen servers links) at one).touched ≡ (link_at links at).touched = ap (λ (x : BookLink). x.touched) there ∙ touched_seen servers (link_at links at) in
+            absurd (false≢true (sym (lt-leb one.touched (get_or (links_seen servers links) at one).touched (omega (arith, less, mine, its))) ∙ no_later))
+
+  pub none_oldest : ((i : ℕ) → i < length links → p (link_seen servers (link_at links i)) ≡ false) → find (is_oldest p (links_seen servers links)) (links_seen servers links) ≡ None
+  unfolding is_oldest
+  none_oldest none =
+      let long = length_seen servers links in
+      find_none (is_oldest p (links_seen servers links)) (links_seen servers links) (any_nowhere (is_oldest p (links_seen servers links)) (links_seen servers links)
+      (λ i d within.
+      let inside : i < length links = omega (arith, within, long) in
+      let no : p (get_or (links_seen servers links) i d) ≡ false = ap p (read_seen servers links i d inside) ∙ none i inside in
+      rw no refl))
+
 old_enough : (live a b now : ℕ) → a ≤ b → nat_le live (now - b) ≡ true → nat_le live (now - a) ≡ true
 old_enough live a b now later old =
     elim (cases_lt (now - b) live) [
@@ -151,73 +211,58 @@ old_enough live a b now later old =
       | inr high ↦ le-leb live (now - a) (omega (arith, high, later))
     ]
 
-pub yields_first : (servers : List Nas) (rules : Rules) (now : ℕ) (links : List Link) (at : ℕ) → IsOldest links at → is_stale_at rules now (link_seen servers (link_at links at)) ≡ true
+pub yields_first : (servers : List Nas) (rules : Rules) (now : ℕ) (links : List Link) (at : ℕ) → IsOldest (is_of Bound) links at → is_stale_at rules now (link_seen servers (link_at links at)) ≡ true
     → IsFirst (can_yield rules now (links_seen servers links)) (links_seen servers links) at
-unfolding can_yield link_seen
+unfolding can_yield
 yields_first servers rules now links at oldest stale =
-    let long = length_seen servers links in
-    let front = oldest.within in
-    record {
-      within = omega (arith, front, long);
-      passed = λ d. subst (λ (one : BookLink). can_yield rules now (links_seen servers links) one ≡ true) (sym (read_seen servers links at d front))
-          (and_from _ _ stale (all_of (λ (other : BookLink). nat_le (link_seen servers (link_at links at)).touched other.touched) (is_stale_at rules now) (links_seen servers links)
-          (λ i d within old.
-          let inside : i < length links = omega (arith, within, long) in
-          let read = read_seen servers links i d inside in
-          let own : is_stale_at rules now (link_seen servers (link_at links i)) ≡ true = subst (λ (one : BookLink). is_stale_at rules now one ≡ true) read old in
-          subst (λ (one : BookLink). nat_le (link_seen servers (link_at links at)).touched one.touched ≡ true) (sym read)
-          (least i inside (stale_parts servers rules now (link_at links i) own).0))));
-      before = any_none (can_yield rules now (links_seen servers links)) (links_seen servers links) at
-          (λ i d low within. earlier i (omega (arith, within, long)) low (get_or (links_seen servers links) i d) (read_seen servers links i d (omega (arith, within, long))));
-    }
-  where
-    least : (i : ℕ) → i < length links → holds_session (link_at links i).holder ≡ true → nat_le (link_seen servers (link_at links at)).touched (link_seen servers (link_at links i)).touched ≡ true
-    least i inside bound = le-leb _ _ (oldest.oldest i inside bound)
+    first_oldest servers links (is_stale_at rules now) (is_of Bound) (λ link is. (stale_parts servers rules now link is).0) at oldest stale
 
-    earlier : (i : ℕ) → i < length links → i < at → (one : BookLink) → one ≡ link_seen servers (link_at links i) → can_yield rules now (links_seen servers links) one ≡ false
-    earlier i inside low one read = by_cases (can_yield rules now (links_seen servers links) one) refl where
-      by_cases : (b : Bool) → can_yield rules now (links_seen servers links) one ≡ b → can_yield rules now (links_seen servers links) one ≡ false
-      by_cases false e = e
-      by_cases true e =
-          let parts = and_parts (is_stale_at rules now one) (list_all (λ (other : BookLink). nat_le one.touched other.touched) (filter (is_stale_at rules now) (links_seen servers links))) e in
-          let own : is_stale_at rules now (link_seen servers (link_at links i)) ≡ true = subst (λ (x : BookLink). is_stale_at rules now x ≡ true) read parts.0 in
-          let less = oldest.first i low (stale_parts servers rules now (link_at links i) own).0 in
-          let here = read_seen servers links at one oldest.within in
-          let long = length_seen servers links in
-          let front = oldest.within in
-          let no_later = one_of (λ (other : BookLink). nat_le one.touched other.touched) (is_stale_at rules now) (links_seen servers links) at one parts.1 (omega (arith, front, long))
-          (subst (λ (x : BookLink). is_stale_at rules now x ≡ true) (sym here) stale) in
-          let mine : one.touched ≡ (link_at links i).touched = ap (λ (x : BookLink). x.touched) read ∙ touched_seen servers (link_at links i) in
-          let its : (get_or (links_seen servers links) at one).touched ≡ (link_at links at).touched = ap (λ (x : BookLink). x.touched) here ∙ touched_seen servers (link_at links at) in
-          absurd (false≢true (sym (lt-leb one.touched (get_or (links_seen servers links) at one).touched (omega (arith, less, mine, its))) ∙ no_later))
-
-none_yields : (servers : List Nas) (rules : Rules) (now : ℕ) (links : List Link) → ((i : ℕ) → i < length links → is_stale_at rules now (link_seen servers (link_at links i)) ≡ false)
+pub none_bound : (servers : List Nas) (rules : Rules) (now : ℕ) (links : List Link) → ((i : ℕ) → i < length links → is_of Bound (link_at links i) ≡ false)
     → find (can_yield rules now (links_seen servers links)) (links_seen servers links) ≡ None
 unfolding can_yield
-none_yields servers rules now links none =
-    let long = length_seen servers links in
-    find_none (can_yield rules now (links_seen servers links)) (links_seen servers links) (any_nowhere (can_yield rules now (links_seen servers links)) (links_seen servers links)
-    (λ i d within.
-    let inside : i < length links = omega (arith, within, long) in
-    let no : is_stale_at rules now (get_or (links_seen servers links) i d) ≡ false = ap (is_stale_at rules now) (read_seen servers links i d inside) ∙ none i inside in
-    rw no refl))
-
-pub none_bound : (servers : List Nas) (rules : Rules) (now : ℕ) (links : List Link) → ((i : ℕ) → i < length links → holds_session (link_at links i).holder ≡ false)
-    → find (can_yield rules now (links_seen servers links)) (links_seen servers links) ≡ None
-none_bound servers rules now links none = none_yields servers rules now links (λ i within. not_stale i within (is_stale_at rules now (link_seen servers (link_at links i))) refl) where
+none_bound servers rules now links none = none_oldest servers links (is_stale_at rules now) (λ i within. not_stale i within (is_stale_at rules now (link_seen servers (link_at links i))) refl) where
   not_stale : (i : ℕ) → i < length links → (b : Bool) → is_stale_at rules now (link_seen servers (link_at links i)) ≡ b → is_stale_at rules now (link_seen servers (link_at links i)) ≡ false
   not_stale i within true e = absurd (false≢true (sym (none i within) ∙ (stale_parts servers rules now (link_at links i) e).0))
   not_stale i within false e = e
 
-pub none_stale : (servers : List Nas) (rules : Rules) (now : ℕ) (links : List Link) (at : ℕ) → IsOldest links at → is_stale_at rules now (link_seen servers (link_at links at)) ≡ false
+pub none_stale : (servers : List Nas) (rules : Rules) (now : ℕ) (links : List Link) (at : ℕ) → IsOldest (is_of Bound) links at → is_stale_at rules now (link_seen servers (link_at links at)) ≡ false
     → find (can_yield rules now (links_seen servers links)) (links_seen servers links) ≡ None
-none_stale servers rules now links at oldest fresh = none_yields servers rules now links (λ i within. not_stale i within (is_stale_at rules now (link_seen servers (link_at links i))) refl) where
+unfolding can_yield
+none_stale servers rules now links at oldest fresh = none_oldest servers links (is_stale_at rules now) (λ i within. not_stale i within (is_stale_at rules now (link_seen servers (link_at links i))) refl) where
   not_stale : (i : ℕ) → i < length links → (b : Bool) → is_stale_at rules now (link_seen servers (link_at links i)) ≡ b → is_stale_at rules now (link_seen servers (link_at links i)) ≡ false
   not_stale i within false e = e
   not_stale i within true e =
       let parts = stale_parts servers rules now (link_at links i) e in
       let old = old_enough rules.live (link_at links at).touched (link_at links i).touched now (oldest.oldest i within parts.0) parts.1 in
-      absurd (false≢true (sym fresh ∙ stale_from servers rules now (link_at links at) oldest.bound old))
+      absurd (false≢true (sym fresh ∙ stale_from servers rules now (link_at links at) oldest.passed old))
+
+-- the link of a station
+of_station_seen : (servers : List Nas) (station : List ℕ) (link : Link) → is_stationed (Some station) (link_seen servers link) ≡ is_of_station station link
+unfolding is_stationed is_of_station link_seen
+of_station_seen servers station link = by_cases link.station where
+  by_cases : (own : Option (List ℕ)) → same_station own (Some station) ≡ has_octets station own
+  by_cases None = refl
+  by_cases (Some octets) = refl
+
+pub returns_first : (servers : List Nas) (station : List ℕ) (links : List Link) (at : ℕ) → IsOldest (is_of_station station) links at
+    → IsFirst (can_return (Some station) (links_seen servers links)) (links_seen servers links) at
+unfolding can_return
+returns_first servers station links at oldest =
+    first_oldest servers links (is_stationed (Some station)) (is_of_station station) (λ link is. sym (of_station_seen servers station link) ∙ is) at oldest
+    (of_station_seen servers station (link_at links at) ∙ oldest.passed)
+
+pub none_returns : (servers : List Nas) (station : List ℕ) (links : List Link) → list_any (is_of_station station) links ≡ false → find (can_return (Some station) (links_seen servers links)) (links_seen servers links) ≡ None
+unfolding can_return
+none_returns servers station links none =
+    none_oldest servers links (is_stationed (Some station)) (λ i within. of_station_seen servers station (link_at links i) ∙ nowhere_among (is_of_station station) links i none within)
+
+-- and where no station asks
+pub no_station : (servers : List Nas) (links : List Link) → find (can_return None (links_seen servers links)) (links_seen servers links) ≡ None
+unfolding can_return is_stationed
+no_station servers links = none_oldest servers links (is_stationed None) (λ i within. by_cases (link_seen servers (link_at links i)).station) where
+  by_cases : (own : Option (List ℕ)) → same_station own None ≡ false
+  by_cases None = refl
+  by_cases (Some octets) = refl
 
 -- and there is one link less
 pub fewer_left : (links left : List Link) (at : ℕ) → at < length links → left ≡ take at links ++ drop (at + 1) links → length left < length links

@@ -1,8 +1,8 @@
 -- An order lists some links of a book, here by their positions, while a book itself keeps their
--- slots: the reserved or the bound links by their last touch, the bound links by their sessions, or
--- the links in bundles by their bundles. Links with equal sort keys are in the order in which they
--- opened.
-use Rattle.std.specs.Prelude.{◌≡◌, ◌≢◌, ℕ, ◌<◌, ◌≤◌, List, [], ◌∷◌, get_or, length, ◌==◌, ◌&&◌, Bool, true, false, Option, None, Some}
+-- slots: the reserved or the bound links by their last touch, the bound links by their sessions, the
+-- links in bundles by their bundles, or the links that have a station by it. Links with equal sort
+-- keys are in the order in which they opened.
+use Rattle.std.specs.Prelude.{◌≡◌, ◌≢◌, ℕ, ◌<◌, ◌≤◌, List, [], ◌∷◌, get_or, length, ◌==◌, ◌&&◌, Bool, true, false, is_some, Option, None, Some}
 use Rattle.std.specs.Ordering.{ordering_then, nat_cmp, is_lt}
 use Rattle.std.specs.declared.cmp.Ordering.{Ordering}
 use Rattle.std.specs.Cmp.Lexicographic.{slice_cmp}
@@ -11,7 +11,7 @@ use Rattle.rsl_links.specs.declared.link.Link.{Link}
 use Rattle.rsl_links.specs.declared.link.Holder.{Holder as LinkHolder}
 use Rattle.rsl_links.specs.declared.link.Holder.TheVariants.{Reserved as LinkReserved, Bound as LinkBound}
 use Rattle.rsl_links.specs.declared.order.OrderKind.{OrderKind}
-use Rattle.rsl_links.specs.declared.order.OrderKind.TheVariants.{Reserved, Bound, Sessions, Bundles}
+use Rattle.rsl_links.specs.declared.order.OrderKind.TheVariants.{Reserved, Bound, Sessions, Bundles, Stations}
 
 -- the sort key of an order: numbers, and then the position
 abbrev pub Key : Type 0
@@ -45,7 +45,15 @@ pub record IsOrder (listed : ℕ → Type 0) (entry : ℕ → Key) (order : List
 
 -- the link at a position, and past the end one that is never looked at
 abbrev pub no_link : Link
-no_link = record { nas = 0; touched = 0; holder = LinkReserved 0; bundle = None }
+no_link =
+    record {
+      nas = 0;
+      touched = 0;
+      holder = LinkReserved 0;
+      bundle = None;
+      station = None;
+      opened = 0;
+    }
 
 abbrev pub link_at : List Link → ℕ → Link
 link_at links at = get_or links at no_link
@@ -62,32 +70,32 @@ abbrev pub id_of : LinkHolder → List ℕ
 id_of (LinkReserved number) = []
 id_of (LinkBound id) = id
 
-abbrev pub is_in_bundle : Option (List ℕ) → Bool
-is_in_bundle None = false
-is_in_bundle (Some id) = true
-
-abbrev pub id_of_bundle : Option (List ℕ) → List ℕ
-id_of_bundle None = []
-id_of_bundle (Some id) = id
+-- the octets of a bundle or a station
+abbrev pub octets_of : Option (List ℕ) → List ℕ
+octets_of None = []
+octets_of (Some octets) = octets
 
 -- the links of a kind, and their sort key: a number, and octets
 abbrev pub is_of : OrderKind → Link → Bool
 is_of Reserved link = holds_number link.holder
 is_of Bound link = holds_session link.holder
 is_of Sessions link = holds_session link.holder
-is_of Bundles link = is_in_bundle link.bundle
+is_of Bundles link = is_some link.bundle
+is_of Stations link = is_some link.station
 
 abbrev pub order_number : OrderKind → Link → ℕ
 order_number Reserved link = link.touched
 order_number Bound link = link.touched
 order_number Sessions link = link.nas
 order_number Bundles link = link.nas
+order_number Stations link = 0
 
 abbrev pub order_octets : OrderKind → Link → List ℕ
 order_octets Reserved link = []
 order_octets Bound link = []
 order_octets Sessions link = id_of link.holder
-order_octets Bundles link = id_of_bundle link.bundle
+order_octets Bundles link = octets_of link.bundle
+order_octets Stations link = octets_of link.station
 
 abbrev pub order_key : OrderKind → Link → List ℕ
 order_key kind link = order_number kind link ∷ order_octets kind link
@@ -120,3 +128,4 @@ is_by_touch Reserved = true
 is_by_touch Bound = true
 is_by_touch Sessions = false
 is_by_touch Bundles = false
+is_by_touch Stations = false

@@ -31,6 +31,8 @@ link_seen servers link =
       nas = server_at servers link.nas;
       holder = holder_at (server_at servers link.nas) link.holder;
       bundle = bundle_with (server_at servers link.nas) link.bundle;
+      station = link.station;
+      opened = link.opened;
       touched = link.touched;
     }
 

@@ -11,13 +11,14 @@ server_of nas (Reserved number) = nas
 server_of nas (Bound session) = session.nas
 
 -- a link touched, or taken for a session of this id, by an alive at its own access server
-unfoldable pub touch_here : ℕ → Option (List ℕ) → BookLink → BookLink
-touch_here now bundle link = touch now (bundle_with (server_of link.nas link.holder) bundle) link
+unfoldable pub touch_here : ℕ → Option (List ℕ) → Option (List ℕ) → BookLink → BookLink
+touch_here now bundle station link =
+    touch now (bundle_with (server_of link.nas link.holder) bundle) station link
 
-unfoldable pub take_here : ℕ → List ℕ → Option (List ℕ) → BookLink → BookLink
-take_here now id bundle link =
+unfoldable pub take_here : ℕ → List ℕ → Option (List ℕ) → Option (List ℕ) → BookLink → BookLink
+take_here now id bundle station link =
     take_for (record { nas = server_of link.nas link.holder; id = id }) now
-    (bundle_with (server_of link.nas link.holder) bundle) link
+    (bundle_with (server_of link.nas link.holder) bundle) station link
 
 -- the links without the one at a position
 unfoldable pub without_at : {A : Type 0} → ℕ → List A → List A

@@ -1,9 +1,10 @@
 //! The links of one account, and the access servers that they name.
 //!
 //! A link is found as the definitions find it: the link of a session, the first that an alive may
-//! take, those of a bundle, the one that lapses and the one touched longest ago. The links are kept
-//! in several orders, so that no other link is looked at. `specs/Seen.antt` says what a link stands
-//! for, `specs/LinkList.antt` and `specs/First.antt` what is found.
+//! take, those of a bundle, the one that lapses, the one touched longest ago, and that of a
+//! station. The links are kept in several orders, so that no other link is looked at.
+//! `specs/Seen.antt` says what a link stands for, `specs/LinkList.antt` and `specs/First.antt` what
+//! is found.
 #![tactic(auto)]
 
 mod link;

@@ -1,10 +1,9 @@
-ghost use Rattle.std.specs.Prelude.{◌≡◌, ◌↔◌, Option, IfOk, IsTrue};
+ghost use Rattle.std.specs.Prelude.{◌≡◌, ◌↔◌, Option, IfOk, IsFalse, IsTrue};
 ghost use Rattle.rsl_accounts.specs.Limits.{RulesFit};
-ghost use Rattle.rsl_session.specs.Same.{same_nas};
 ghost use Rattle.rsl_session.specs.Book.{is_stale_at};
-ghost use Rattle.rsl_session.specs.BookLinks.{lapses_at};
+ghost use Rattle.rsl_session.specs.BookLinks.{is_swept, lapses_at};
 ghost use Rattle.rsl_links.specs.Seen.{link_seen};
-ghost use Rattle.rsl_links.specs.Changed.{bound_link, joined_link};
+ghost use Rattle.rsl_links.specs.Changed.{bound_link, joined_link, stationed_link};
 ghost use Rattle.rsl_links.specs.LinkList.{is_for};
 
 use crate::servers::Servers;
@@ -46,6 +45,10 @@ pub struct Link {
     pub holder: Holder,
     /// Its bundle, by its Acct-Multi-Session-Id, if it is in one.
     pub bundle: Option<Octets>,
+    /// Its station, if any: the last one with which it was touched.
+    pub station: Option<Octets>,
+    /// The clock when it opened, in seconds.
+    pub opened: u64,
 }
 
 impl Link {
@@ -57,6 +60,8 @@ impl Link {
             nas: self.nas,
             holder: self.holder.try_copy(alloc)?,
             bundle: Octets::try_copy_option(alloc, &self.bundle)?,
+            station: Octets::try_copy_option(alloc, &self.station)?,
+            opened: self.opened,
             touched: self.touched,
         })
     }
@@ -70,6 +75,8 @@ impl Link {
         servers.at(self.nas).is_same(others.at(other.nas))
             && self.holder == other.holder
             && self.bundle == other.bundle
+            && self.station == other.station
+            && self.opened == other.opened
             && self.touched == other.touched
     }
 
@@ -97,12 +104,13 @@ impl Link {
         }
     }
 
-    /// Whether it is at this access server.
-    #[tactic(auto, unfolding(crate::specs::Seen::link_seen))]
-    pub fn is_at(&self, servers: &Servers, nas: &Nas) -> bool
-        ensures { result ≡ same_nas (link_seen servers.now self.now).nas nas.now }
+    /// Whether a sweep of this access server ends it, which is told `delay` seconds late at this
+    /// clock: it is there, and opened before.
+    #[tactic(auto, unfolding(crate::specs::Seen::link_seen, rsl_session::specs::BookLinks::is_swept))]
+    pub fn is_swept(&self, servers: &Servers, nas: &Nas, delay: u64, now: u64) -> bool
+        ensures { result ≡ is_swept nas.now delay now (link_seen servers.now self.now) }
     {
-        servers.is_at(self.nas, nas)
+        servers.is_at(self.nas, nas) && delay <= now.saturating_sub(self.opened)
     }
 
     /// Whether it is reserved at the access server of this index, and by the number of the class if
@@ -125,6 +133,24 @@ impl Link {
     {
         if self.bundle.is_none() {
             self.bundle = bundle;
+        }
+    }
+
+    /// Whether an alive gives it another station.
+    #[tactic(auto, unfolding(crate::specs::Changed::stationed_link))]
+    pub(crate) fn moves_to(&self, station: &Option<Octets>) -> bool
+        ensures { IsFalse result → stationed_link station.now self.now ≡ self.now }
+    {
+        station.is_some() && self.station != *station
+    }
+
+    /// Gives it the station of an alive, if that names one.
+    #[tactic(auto, unfolding(crate::specs::Changed::stationed_link))]
+    pub(crate) fn move_to(&mut self, station: Option<Octets>)
+        ensures { self.new ≡ stationed_link station self.old }
+    {
+        if station.is_some() {
+            self.station = station;
         }
     }
 

@@ -4,10 +4,10 @@ ghost use Rattle.std.specs.Prelude.{drop, length, if◌then◌else◌, IfSome, I
 ghost use Rattle.std.specs.Int.{div_ceil};
 ghost use Rattle.rsl_accounts.specs.Limits.{RulesFit};
 ghost use Rattle.rsl_session.specs.Places.{places_of};
-ghost use Rattle.rsl_session.specs.Same.{same_nas};
 ghost use Rattle.rsl_session.specs.Book.{BookLink, bundles_in, is_live_at, is_reservation};
 ghost use Rattle.rsl_session.specs.Book.{is_stale_at};
 ghost use Rattle.rsl_session.specs.BookLinks.{lapses_at, is_link_of, can_be_taken, can_yield};
+ghost use Rattle.rsl_session.specs.BookLinks.{can_return, is_swept};
 ghost use Rattle.rsl_links.specs.Seen.{server_at, links_seen, bundle_with};
 ghost use Rattle.rsl_links.specs.First.{IsFirst, change_at};
 ghost use Rattle.rsl_links.specs.Changed.{taken_link, touched_link};
@@ -94,8 +94,9 @@ impl Links {
     fn joins_a_place(&self, servers: &Servers, at: usize, bundle: &Option<Octets>) -> bool
         requires counted { AreCounted servers.now self.now }
         requires within { at < length self.now.list.items }
-        ensures { (now : ℕ) → places_of self.now.ports (bundles_in (links_seen servers.now
-            (change_at at (touched_link now bundle.now) self.now.list.items)))
+        ensures { (now : ℕ) (station : Option (List ℕ)) →
+            places_of self.now.ports (bundles_in (links_seen servers.now
+            (change_at at (touched_link now bundle.now station) self.now.list.items)))
             + (if result then 1 else 0) ≡ places_of self.now.ports (bundles_in
             (links_seen servers.now self.now.list.items)) }
     {
@@ -138,23 +139,32 @@ impl Links {
         self.list.push(link);
     }
 
-    /// Touches a link by an alive, which may carry a bundle.
-    pub fn touch_at(&mut self, servers: &Servers, at: usize, now: u64, bundle: Option<Octets>)
+    /// Touches a link by an alive, which may carry a bundle and a station.
+    pub fn touch_at(
+        &mut self,
+        servers: &Servers,
+        at: usize,
+        now: u64,
+        bundle: Option<Octets>,
+        station: Option<Octets>,
+    )
         requires within { at < length self.old.list.items }
         requires counted { AreCounted servers.now self.old }
         ensures counted { AreCounted servers.now self.new }
         ensures links { self.new.list.items ≡ change_at at
-            (touched_link now bundle) self.old.list.items }
+            (touched_link now bundle station) self.old.list.items }
         ensures fewer { self.new.places ≤ self.old.places }
         ensures ports { self.new.ports ≡ self.old.ports }
         ensures room { self.new.list.room ≡ self.old.list.room }
     {
         self.places -= u64::from(self.joins_a_place(servers, at, &bundle));
         self.list.join(at, bundle);
+        self.list.move_to(at, station);
         self.list.renew(at, now);
     }
 
-    /// Binds a reserved link to the session of this id by an alive, which may carry a bundle.
+    /// Binds a reserved link to the session of this id by an alive, which may carry a bundle and a
+    /// station.
     pub fn take_at(
         &mut self,
         servers: &Servers,
@@ -162,12 +172,13 @@ impl Links {
         now: u64,
         id: Octets,
         bundle: Option<Octets>,
+        station: Option<Octets>,
     )
         requires within { at < length self.old.list.items }
         requires counted { AreCounted servers.now self.old }
         ensures counted { AreCounted servers.now self.new }
         ensures links { self.new.list.items ≡ change_at at
-            (taken_link now id bundle) self.old.list.items }
+            (taken_link now id bundle station) self.old.list.items }
         ensures fewer { self.new.places ≤ self.old.places }
         ensures ports { self.new.ports ≡ self.old.ports }
         ensures room { self.new.list.room ≡ self.old.list.room }
@@ -175,6 +186,7 @@ impl Links {
         self.places -= u64::from(self.joins_a_place(servers, at, &bundle));
         self.list.bind(at, now, id);
         self.list.join(at, bundle);
+        self.list.move_to(at, station);
     }
 
     /// Ends each link that lapses at this clock.
@@ -211,12 +223,12 @@ impl Links {
         }
     }
 
-    /// Ends each link at an access server.
-    pub fn sweep(&mut self, servers: &Servers, nas: &Nas)
+    /// Ends each link at an access server that opened at least `delay` seconds before this clock.
+    pub fn sweep(&mut self, servers: &Servers, nas: &Nas, delay: u64, now: u64)
         requires counted { AreCounted servers.now self.old }
         ensures counted { AreCounted servers.now self.new }
         ensures links { links_seen servers.now self.new.list.items ≡
-            filter (λ (link : BookLink). not (same_nas link.nas nas.now))
+            filter (λ (link : BookLink). not (is_swept nas.now delay now link))
             (links_seen servers.now self.old.list.items) }
         ensures fewer { self.new.places ≤ self.old.places }
         ensures ports { self.new.ports ≡ self.old.ports }
@@ -225,7 +237,7 @@ impl Links {
         let mut at = self.list.len();
         while at > 0 {
             at -= 1;
-            if self.list.index(at).is_at(servers, nas) {
+            if self.list.index(at).is_swept(servers, nas, delay, now) {
                 self.end_at(servers, at);
             }
         }
@@ -278,6 +290,22 @@ impl Links {
                     None
                 }
             }
+        }
+    }
+
+    /// The link that can yield to a station: of its links the one touched longest ago, and of
+    /// several the first.
+    pub fn returning(&self, station: &Option<Octets>) -> Option<usize>
+        ensures found { (servers : List Nas) → IfSome result (λ at. IsFirst (can_return station.now
+            (links_seen servers self.now.list.items))
+            (links_seen servers self.now.list.items) at) }
+        ensures missed { (servers : List Nas) → IfNone result (find (can_return station.now
+            (links_seen servers self.now.list.items))
+            (links_seen servers self.now.list.items) ≡ None) }
+    {
+        match station {
+            None => None,
+            Some(station) => self.list.oldest_of(station.as_slice()),
         }
     }
 

@@ -5,12 +5,12 @@ ghost use Rattle.std.specs.Prelude.{count_by, drop, false, get_or, length, take,
 ghost use Rattle.std.specs.List.{list_any};
 ghost use Rattle.rsl_accounts.specs.Limits.{RulesFit};
 ghost use Rattle.rsl_session.specs.BookLinks.{lapses_at};
-ghost use Rattle.rsl_links.specs.Changed.{bound_link, joined_link, renewed_link};
+ghost use Rattle.rsl_links.specs.Changed.{bound_link, joined_link, renewed_link, stationed_link};
 ghost use Rattle.rsl_links.specs.First.{IsFirst, change_at};
-ghost use Rattle.rsl_links.specs.Order.{is_of, holds_session, link_at};
+ghost use Rattle.rsl_links.specs.Order.{is_of, link_at};
 ghost use Rattle.rsl_links.specs.Slots.{IsKept};
 ghost use Rattle.rsl_links.specs.LinkList.{AreOrders, AreOrdersBut, AreNoOrders, HaveOrdersRoom};
-ghost use Rattle.rsl_links.specs.LinkList.{HaveKinds, IsOldest, is_bound_at};
+ghost use Rattle.rsl_links.specs.LinkList.{IsOldest, is_bound_at, is_of_station};
 ghost use Rattle.rsl_links.specs.LinkList.{is_bound_until, is_for, is_held, is_member};
 ghost use Rattle.rsl_links.specs.declared.order.OrderKind.TheVariants.{Reserved, Bound};
 ghost use Rattle.rsl_links.specs.Named.{named_by_links};
@@ -32,20 +32,21 @@ struct Orders {
     bound: Order,
     sessions: Order,
     bundles: Order,
+    stations: Order,
 }
 
 impl Orders {
     /// Orders of no links, with room for `room`. It fails only if memory is refused.
     fn new(alloc: Global, room: usize) -> Result<Orders, NoMemory>
-        ensures kinds { IfOk result HaveKinds }
         ensures empty { IfOk result AreNoOrders }
         ensures room { IfOk result (λ orders. HaveOrdersRoom room orders) }
     {
         Ok(Orders {
-            reserved: Order::new(alloc, OrderKind::Reserved, room)?,
-            bound: Order::new(alloc, OrderKind::Bound, room)?,
-            sessions: Order::new(alloc, OrderKind::Sessions, room)?,
-            bundles: Order::new(alloc, OrderKind::Bundles, room)?,
+            reserved: Order::new(alloc, room)?,
+            bound: Order::new(alloc, room)?,
+            sessions: Order::new(alloc, room)?,
+            bundles: Order::new(alloc, room)?,
+            stations: Order::new(alloc, room)?,
         })
     }
 
@@ -54,14 +55,14 @@ impl Orders {
         requires kept { IsKept slots.now }
         requires within { at < slots.now.count }
         requires orders { AreOrders slots.now self.old }
-        ensures kinds { HaveKinds self.old → HaveKinds self.new }
         ensures orders { AreOrdersBut slots.now at self.new }
         ensures room { (most : ℕ) → HaveOrdersRoom most self.old → HaveOrdersRoom most self.new }
     {
-        self.reserved.withdraw(slots, at);
-        self.bound.withdraw(slots, at);
-        self.sessions.withdraw(slots, at);
-        self.bundles.withdraw(slots, at);
+        self.reserved.withdraw(OrderKind::Reserved, slots, at);
+        self.bound.withdraw(OrderKind::Bound, slots, at);
+        self.sessions.withdraw(OrderKind::Sessions, slots, at);
+        self.bundles.withdraw(OrderKind::Bundles, slots, at);
+        self.stations.withdraw(OrderKind::Stations, slots, at);
     }
 
     /// Inserts the link at a position into the orders of its kind.
@@ -70,14 +71,14 @@ impl Orders {
         requires within { at < slots.now.count }
         requires orders { AreOrdersBut slots.now at self.old }
         requires room { HaveOrdersRoom slots.now.count self.old }
-        ensures kinds { HaveKinds self.old → HaveKinds self.new }
         ensures orders { AreOrders slots.now self.new }
         ensures room { (most : ℕ) → HaveOrdersRoom most self.old → HaveOrdersRoom most self.new }
     {
-        self.reserved.enter(slots, at);
-        self.bound.enter(slots, at);
-        self.sessions.enter(slots, at);
-        self.bundles.enter(slots, at);
+        self.reserved.enter(OrderKind::Reserved, slots, at);
+        self.bound.enter(OrderKind::Bound, slots, at);
+        self.sessions.enter(OrderKind::Sessions, slots, at);
+        self.bundles.enter(OrderKind::Bundles, slots, at);
+        self.stations.enter(OrderKind::Stations, slots, at);
     }
 }
 
@@ -86,8 +87,8 @@ impl Orders {
 /// The clock never falls, so a link that is touched goes to the end of its order, and those that
 /// lapse, or could yield, are at the front. A link that ends leaves its orders, where later ones
 /// move up by a word each; the only other links that are looked at are those of the binary search
-/// for its rank. A reservation is in one order alone: it ends or is bound soon after it opened, and
-/// there are at most as many as places.
+/// for its rank. A reservation is in one order, and in a second if it has a station: it ends or is
+/// bound soon after it opened, and there are at most as many as places.
 #[derive(Drop)]
 pub struct LinkList {
     slots: Slots,
@@ -151,17 +152,23 @@ impl LinkList {
         self.slots.remove(at);
     }
 
-    /// Touches a link at this clock. Its orders by session and by bundle stay.
+    /// Touches a link at this clock. Its orders by session, by bundle and by station stay.
     pub fn renew(&mut self, at: usize, now: u64)
         requires { at < length self.old.items }
         ensures items { self.new.items ≡ change_at at (renewed_link now) self.old.items }
         ensures room { self.new.room ≡ self.old.room }
     {
-        self.orders.reserved.withdraw(&self.slots, at);
-        self.orders.bound.withdraw(&self.slots, at);
+        self.orders
+            .reserved
+            .withdraw(OrderKind::Reserved, &self.slots, at);
+        self.orders
+            .bound
+            .withdraw(OrderKind::Bound, &self.slots, at);
         self.slots.renew(at, now);
-        self.orders.reserved.enter(&self.slots, at);
-        self.orders.bound.enter(&self.slots, at);
+        self.orders
+            .reserved
+            .enter(OrderKind::Reserved, &self.slots, at);
+        self.orders.bound.enter(OrderKind::Bound, &self.slots, at);
     }
 
     /// Binds a link to the session of this id, with this clock as its last touch.
@@ -183,9 +190,25 @@ impl LinkList {
     {
         // A link whose bundle stays keeps its rank in the order of bundles.
         if bundle.is_some() && self.slots.link(at).bundle.is_none() {
-            self.orders.bundles.withdraw(&self.slots, at);
+            let kind = OrderKind::Bundles;
+            self.orders.bundles.withdraw(kind, &self.slots, at);
             self.slots.join(at, bundle);
-            self.orders.bundles.enter(&self.slots, at);
+            self.orders.bundles.enter(kind, &self.slots, at);
+        }
+    }
+
+    /// Gives a link the station that an alive names, if any.
+    pub fn move_to(&mut self, at: usize, station: Option<Octets>)
+        requires { at < length self.old.items }
+        ensures items { self.new.items ≡ change_at at (stationed_link station) self.old.items }
+        ensures room { self.new.room ≡ self.old.room }
+    {
+        // A link whose station stays keeps its rank in the order of stations.
+        if self.slots.link(at).moves_to(&station) {
+            let kind = OrderKind::Stations;
+            self.orders.stations.withdraw(kind, &self.slots, at);
+            self.slots.move_to(at, station);
+            self.orders.stations.enter(kind, &self.slots, at);
         }
     }
 
@@ -228,7 +251,7 @@ impl LinkList {
         ensures { result ≡ count_by (is_bound_until clock) self.now.items }
     {
         let order = &self.orders.bound;
-        order.count_before(&self.slots, clock, &[], u64::MAX)
+        order.count_before(OrderKind::Bound, &self.slots, clock, &[], u64::MAX)
     }
 
     /// The number of links in the bundle of this id at the access server of an index.
@@ -243,7 +266,7 @@ impl LinkList {
         ensures { result ≡ list_any (is_bound_at nas) self.now.items }
     {
         let order = &self.orders.sessions;
-        let rank = order.count_before(&self.slots, nas as u64, &[], 0);
+        let rank = order.count_before(OrderKind::Sessions, &self.slots, nas as u64, &[], 0);
         if rank == order.slots.len() {
             return false;
         }
@@ -269,28 +292,40 @@ impl LinkList {
         ensures missed { IfNone result ((at : ℕ) → at < length self.now.items →
             lapses_at rules.now now (link_seen servers.now (link_at self.now.items at)) ≡ false) }
     {
-        let slots = &self.slots;
-        let reserved = self
-            .orders
-            .reserved
-            .first_lapsed(slots, servers, rules, now);
-        if reserved.is_some() {
-            return reserved;
+        let Orders {
+            reserved,
+            bound,
+            ..
+        } = &self.orders;
+        let one = reserved.first_lapsed(OrderKind::Reserved, &self.slots, servers, rules, now);
+        if one.is_some() {
+            return one;
         }
-        self.orders.bound.first_lapsed(slots, servers, rules, now)
+        bound.first_lapsed(OrderKind::Bound, &self.slots, servers, rules, now)
     }
 
     /// The bound link touched longest ago, and of several the first.
     pub fn oldest(&self) -> Option<usize>
-        ensures found { IfSome result (λ at. IsOldest self.now.items at) }
+        ensures found { IfSome result (λ at. IsOldest (is_of Bound) self.now.items at) }
         ensures missed { IfNone result ((at : ℕ) → at < length self.now.items →
-            holds_session (link_at self.now.items at).holder ≡ false) }
+            is_of Bound (link_at self.now.items at) ≡ false) }
     {
         let order = &self.orders.bound;
         if order.slots.is_empty() {
             return None;
         }
         Some(self.slots.position(order.slots[0]))
+    }
+
+    /// The link of a station touched longest ago, and of several the first. Only links of that
+    /// station are looked at.
+    pub fn oldest_of(&self, station: &[u8]) -> Option<usize>
+        ensures found { IfSome result (λ at.
+            IsOldest (is_of_station station.now) self.now.items at) }
+        ensures missed { IfNone result
+            (list_any (is_of_station station.now) self.now.items ≡ false) }
+    {
+        self.orders.stations.oldest_of(&self.slots, station)
     }
 
     /// Equal links, with room for `room`. It fails only if memory is refused.

@@ -1,7 +1,7 @@
 //! Where a book keeps its links, with the order in which they opened.
 
 ghost use Rattle.std.specs.Prelude.{◌≡◌, ℕ, ◌<◌, ◌+◌, get_or, length, vec_capacity, IfOk, []};
-ghost use Rattle.rsl_links.specs.Changed.{bound_link, joined_link, renewed_link};
+ghost use Rattle.rsl_links.specs.Changed.{bound_link, joined_link, renewed_link, stationed_link};
 ghost use Rattle.rsl_links.specs.Order.{Stands, link_at};
 ghost use Rattle.rsl_links.specs.Slots.{AreSame, IsChanged, IsKept, IsLess, IsMore, links_of, no_slot};
 ghost use Rattle.rsl_links.specs.Slots.{opened_in, opened_of};
@@ -30,6 +30,8 @@ impl Slot {
             touched: 0,
             holder: Holder::Reserved(0),
             bundle: None,
+            station: None,
+            opened: 0,
         };
         Slot { opened: 0, link }
     }
@@ -220,6 +222,16 @@ impl Slots {
     {
         let slot = self.slot(at);
         self.slots[slot].link.join(bundle);
+    }
+
+    /// Gives a link the station of an alive, if that names one.
+    pub(crate) fn move_to(&mut self, at: usize, station: Option<Octets>)
+        requires kept { IsKept self.old }
+        requires within { at < self.old.count }
+        ensures { IsChanged at (stationed_link station) self.old self.new }
+    {
+        let slot = self.slot(at);
+        self.slots[slot].link.move_to(station);
     }
 
     /// Binds a link to the session of this id, with this clock as its last touch.

@@ -1,11 +1,9 @@
 -- An audit steps books, in place of a look back over all lines before each: what the books decide is what the
 -- rule finds.
-use Rattle.std.proofs.Common.{◌≡◌, List, [], ◌∷◌, ◌++◌, Option, Some, None, refl, sym, ap, subst, ◌∙◌, append_assoc, ℕ, zero, suc, ◌+◌, ◌*◌, ◌/◌, ◌%◌, ◌<◌, ◌==◌, Bool, true, false, cond, length, take, get_or, arith, length-append}
-use Rattle.std.specs.Prelude.{IfSome, slice_get}
-use Rattle.std.specs.List.{cons_option, flat_map}
+use Rattle.std.proofs.Common.{◌≡◌, List, [], ◌∷◌, ◌++◌, Option, Some, None, refl, sym, ap, ◌∙◌, ℕ, ◌+◌, ◌*◌, ◌/◌, ◌%◌, ◌<◌, arith}
+use Rattle.std.specs.Prelude.{slice_get}
+use Rattle.std.specs.List.{cons_option}
 use Rattle.std.specs.Option.{option_map, option_map_or}
-use Rattle.std.proofs.lemmas.Bool.{eqb-true}
-use Rattle.std.proofs.lemmas.List.{append-nil, flat_map_more, take_more}
 use Rattle.rsl_accounts.specs.Configuration.{Configuration}
 use Rattle.rsl_accounts.specs.declared.entry.Entry.{Entry}
 use Rattle.rsl_accounts.specs.declared.rules.Rules.{Rules}
@@ -17,8 +15,8 @@ use Rattle.rsl_session.specs.Book.{Book, new_book}
 use Rattle.rsl_session.specs.BookStep.{book_after, step}
 use Rattle.rsl_session.specs.Rule.{decision_of, outcome_of, past_of}
 use Rattle.rsl_session.proofs.Callers.{IsRuled-past_of, books_are, joins}
-use Rattle.rsl_shard.specs.Moves.{IsOwn, IsTaken, event_to, own_in}
-use Rattle.rsl_shard.specs.Restep.{book_at, book_from, book_of_entry, books_after, decision_by, moved_from, new_books, restep, step_by}
+use Rattle.rsl_shard.specs.Moves.{IsTaken, event_to, own_in}
+use Rattle.rsl_shard.specs.Restep.{book_at, book_of_entry, books_after, decision_by, new_books, restep, step_by}
 use Rattle.rsl_shard.specs.Setup.{Setup, setup_of}
 use Rattle.rsl_shard.specs.declared.line.Line.{Line}
 use Rattle.rsl_shard.specs.declared.moved.Move.{Move}
@@ -105,6 +103,6 @@ decided_as_ruled config shard before (Own account event) less own =
         ≡ option_map_or (λ (entry : Entry). decision_of (outcome_of entry.rules (past_of entry.rules (own_in account before)) event)) o Done
     by None = refl
     by (Some entry) = stepped_decision entry.rules (own_in account before) event
-decided_as_ruled config shard before (Sweep moment nas) less taken = refl
+decided_as_ruled config shard before (Sweep moment nas delay) less taken = refl
 decided_as_ruled config shard before (Tick moment) less taken = refl
 decided_as_ruled config shard before (Stray moment note) less taken = refl

@@ -1,6 +1,6 @@
 -- The segments of a shard, one after another.
-use Rattle.std.proofs.Common.{◌≡◌, ◌↔◌, ◌⊎◌, List, [], ◌∷◌, ◌++◌, Option, Some, None, inl, inr, refl, sym, ap, subst, ◌∙◌, append_assoc, ℕ, zero, suc, ◌+◌, ◌^◌, ◌<◌, ◌≤◌, ◌==◌, min, Bool, true, false, cond, length, map, take, drop, get_or, arith, append-nil, length-append}
-use Rattle.std.specs.Prelude.{All, IfErr, OnOk, Result, Ok, Err, filter}
+use Rattle.std.proofs.Common.{◌≡◌, ◌↔◌, ◌⊎◌, List, [], ◌∷◌, ◌++◌, Option, Some, None, inl, inr, refl, sym, ap, subst, ◌∙◌, append_assoc, ℕ, ◌+◌, ◌^◌, ◌<◌, ◌≤◌, ◌==◌, min, Bool, true, false, cond, length, map, take, drop, get_or, arith, append-nil, length-append}
+use Rattle.std.specs.Prelude.{All, IfErr, OnOk, Result, Ok, Err}
 use Rattle.rsl_event.specs.declared.event.Decision.{Decision}
 use Rattle.std.proofs.lemmas.Bool.{cases_lt, eq-eqb, ne_eqb}
 use Rattle.std.proofs.lemmas.List.{drop_all, drop_more, get_or-map, length-map, take_all, take_more}
@@ -8,7 +8,7 @@ use Rattle.std.proofs.lemmas.List.Elements.{All-more, All-nil, filter-append}
 use Rattle.rsl_accounts.specs.Configuration.{Configuration}
 use Rattle.rsl_book.specs.RuledBook.{RuledBook}
 use Rattle.rsl_record.specs.Faults.{GoOn, IsBreak, IsSegmentFault, IsLowestAstray}
-use Rattle.rsl_record.specs.Chain.{HasMade, HasTaken, IsNext, Takes}
+use Rattle.rsl_record.specs.Chain.{HasMade, IsNext, Takes}
 use Rattle.rsl_record.specs.Segments.{AllGoOn, GoesOn, HasJoined, of_shard}
 use Rattle.rsl_record.specs.declared.chain.Chain.{Chain}
 use Rattle.rsl_record.specs.declared.close_fault.CloseFault.{CloseFault}

@@ -1,16 +1,16 @@
 -- What receipts tell, pass by pass and shard by shard.
-use Rattle.std.proofs.Common.{◌≡◌, ◌⊎◌, List, [], ◌∷◌, ◌++◌, Option, Some, None, refl, sym, ap, subst, ◌∙◌, inl, inr, ℕ, zero, suc, ◌+◌, ◌<◌, ◌≤◌, ◌==◌, Bool, true, false, cond, length, map, take, drop, get_or, arith, append-nil, length-append}
-use Rattle.std.specs.Prelude.{All, IfErr, IfSome, Result, Ok, Err, filter, slice_get, slice_index, slice_index_or}
+use Rattle.std.proofs.Common.{◌≡◌, ◌⊎◌, List, [], ◌∷◌, ◌++◌, Option, Some, None, refl, sym, ap, subst, ◌∙◌, inl, inr, ℕ, zero, suc, ◌+◌, ◌<◌, ◌≤◌, ◌==◌, Bool, cond, length, map, take, get_or, arith}
+use Rattle.std.specs.Prelude.{All, IfErr, IfSome, Result, Ok, Err, filter, slice_get, slice_index_or}
 use Rattle.std.specs.List.{Contains, count_by, flat_map}
 use Rattle.std.specs.List.Sorted.{IsStrictlyIncreasing}
 use Rattle.std.proofs.lemmas.Bool.{cases_lt, ne_eqb}
 use Rattle.std.proofs.lemmas.List.{flat_map_more, map_more, take_all}
-use Rattle.std.proofs.lemmas.List.Elements.{All-contains, All-nil, All-push, All-tail, Contains-get_or}
+use Rattle.std.proofs.lemmas.List.Elements.{All-contains, All-push, All-tail}
 use Rattle.rsl_accounts.specs.Configuration.{Configuration}
-use Rattle.rsl_record.specs.Faults.{IsAmong, IsFaultOfPass, IsFaultOfPasses, IsFaultOfReceipts, IsSegmentFault, IsNumberFaultOfPass, IsNumberFaultOfPasses, IsOfNoShard, IsMismatchIn}
-use Rattle.rsl_record.specs.Receipts.{FallsAt, FallsTo, IsItsLine, positions_of, times}
+use Rattle.rsl_record.specs.Faults.{IsAmong, IsFaultOfPass, IsFaultOfPasses, IsFaultOfReceipts, IsSegmentFault, IsNumberFaultOfPass, IsNumberFaultOfPasses, IsMismatchIn}
+use Rattle.rsl_record.specs.Receipts.{FallsTo, IsItsLine, positions_of, times}
 use Rattle.rsl_record.specs.Segments.{HasJoined, shard_lines, of_shard}
-use Rattle.rsl_record.specs.Settled.{IsCloseFault, IsMismatch, IsNoLine, IsSettled}
+use Rattle.rsl_record.specs.Settled.{IsCloseFault, IsMismatch, IsSettled}
 use Rattle.rsl_record.specs.declared.close_fault.CloseFault.{CloseFault}
 use Rattle.rsl_record.specs.declared.close_fault.CloseFault.TheVariants.{MissingPass, MissingSegment, Mismatch, NoMemory}
 use Rattle.rsl_record.specs.declared.receipt.Receipt.{Receipt}

@@ -1,9 +1,8 @@
 -- What an audit knows after each of its parts.
-use Rattle.std.proofs.Common.{◌≡◌, List, [], ◌∷◌, ◌++◌, Option, Some, None, refl, sym, ap, subst, ◌∙◌, append_assoc, ℕ, zero, suc, ◌+◌, ◌^◌, ◌<◌, ◌≤◌, Bool, true, false, length, take, get_or, arith, length-append, length-take}
+use Rattle.std.proofs.Common.{◌≡◌, List, [], ◌∷◌, ◌++◌, Option, Some, None, refl, sym, ap, subst, ◌∙◌, append_assoc, ℕ, zero, suc, ◌+◌, ◌^◌, ◌<◌, ◌≤◌, length, take, get_or, arith, length-append, length-take}
 use Rattle.std.specs.Prelude.{IfErr, IfSome, Result, Ok, Err, slice_get}
-use Rattle.std.specs.List.{flat_map}
 use Rattle.std.proofs.lemmas.List.{append-nil, flat_map_more, take_all, take_more}
-use Rattle.std.proofs.lemmas.Option.{get_or_from_slice_get, slice_get-get_or}
+use Rattle.std.proofs.lemmas.Option.{slice_get-get_or}
 use Rattle.rsl_accounts.specs.Configuration.{Configuration}
 use Rattle.rsl_book.specs.RuledBook.{RuledBook}
 use Rattle.rsl_event.specs.declared.event.Decision.{Decision}
@@ -14,7 +13,7 @@ use Rattle.rsl_shard.specs.declared.line.Line.{Line}
 use Rattle.rsl_shard.specs.declared.moved.Move.{Move}
 use Rattle.rsl_record.proofs.AuditLaws.{decided_as_ruled, restepped-more}
 use Rattle.rsl_record.specs.Chain.{HasTaken, IsNext, Takes}
-use Rattle.rsl_record.specs.Audit.{AreJoined, AreRight, BeginsNew, IsFaultAt, IsFaultOfLines, IsFaultOfSegment, IsFaultOfSegments, IsFirstFault, IsFirstWrong, IsRecord, IsRight, Joins, account_of}
+use Rattle.rsl_record.specs.Audit.{AreJoined, AreRight, BeginsNew, IsFaultOfLines, IsFaultOfSegment, IsFaultOfSegments, IsFirstFault, IsRecord, IsRight, Joins}
 use Rattle.rsl_record.specs.Segments.{lines_of}
 use Rattle.rsl_record.specs.Restep.{books_by_restep, rule_decision}
 use Rattle.rsl_record.specs.Walk.{IsFaultOfBeginning, IsFaultOfLine, IsChainOf}

@@ -2,7 +2,7 @@
 use Rattle.std.specs.Prelude.{◌≡◌, ℕ, ◌<◌, ◌≤◌, ◌⊎◌, ⊤, List, [], slice_get, Option, Some, None}
 use Rattle.std.specs.List.{Contains}
 use Rattle.rsl_accounts.specs.Configuration.{Configuration}
-use Rattle.rsl_record.specs.Receipts.{FallsTo, IsItsLine, positions_of, times}
+use Rattle.rsl_record.specs.Receipts.{FallsTo, positions_of}
 use Rattle.rsl_record.specs.Segments.{AllGoOn, HasJoined, of_shard}
 use Rattle.rsl_record.specs.Settled.{IsMismatch}
 use Rattle.rsl_record.specs.declared.chain.Chain.{Chain}

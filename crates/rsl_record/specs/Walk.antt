@@ -4,7 +4,7 @@ use Rattle.rsl_accounts.specs.Configuration.{Configuration}
 use Rattle.rsl_record.specs.Audit.{BeginsNew, IsRight, account_of}
 use Rattle.rsl_record.specs.Restep.{books_by_restep}
 use Rattle.rsl_record.specs.declared.audit_fault.AuditFault.{AuditFault}
-use Rattle.rsl_record.specs.declared.audit_fault.AuditFault.TheVariants.{NotFromEmpty, Gap, WrongDecision, NoMemory}
+use Rattle.rsl_record.specs.declared.audit_fault.AuditFault.TheVariants.{NotFromEmpty, WrongDecision, NoMemory}
 use Rattle.rsl_record.specs.declared.chain.Chain.{Chain}
 use Rattle.rsl_shard.specs.declared.segment.Segment.{Segment}
 use Rattle.rsl_shard.specs.Setup.{setup_of}

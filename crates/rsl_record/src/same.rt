@@ -25,11 +25,12 @@ fn same_move(moved: &Move, other: &Move) -> bool
             } => *account == *other_account && same_event(event, other_event),
             _ => false,
         },
-        Move::Sweep { moment, nas } => match other {
+        Move::Sweep { moment, nas, delay } => match other {
             Move::Sweep {
                 moment: other_moment,
                 nas: other_nas,
-            } => *moment == *other_moment && nas.is_same(other_nas),
+                delay: other_delay,
+            } => *moment == *other_moment && nas.is_same(other_nas) && *delay == *other_delay,
             _ => false,
         },
         Move::Tick { moment } => match other {
@@ -70,11 +71,16 @@ fn same_act(act: &Act, other: &Act) -> bool
     ensures { IsTrue result ↔ (act.now ≡ other.now) }
 {
     match act {
-        Act::Ask { key, nas } => match other {
+        Act::Ask { key, nas, station } => match other {
             Act::Ask {
                 key: other_key,
                 nas: other_nas,
-            } => key.is_same(other_key) && nas.is_same(other_nas),
+                station: other_station,
+            } => {
+                key.is_same(other_key)
+                    && nas.is_same(other_nas)
+                    && same_option(station, other_station)
+            }
             _ => false,
         },
         Act::Alive {
@@ -82,7 +88,8 @@ fn same_act(act: &Act, other: &Act) -> bool
             session,
             bundle,
             class,
-        } => is_alive(other, nas, session, bundle, *class),
+            station,
+        } => is_alive(other, nas, session, bundle, *class, station),
         Act::Stop { nas, session } => match other {
             Act::Stop {
                 nas: other_nas,
@@ -90,8 +97,11 @@ fn same_act(act: &Act, other: &Act) -> bool
             } => nas.is_same(other_nas) && *session == *other_session,
             _ => false,
         },
-        Act::Sweep { nas } => match other {
-            Act::Sweep { nas: other_nas } => nas.is_same(other_nas),
+        Act::Sweep { nas, delay } => match other {
+            Act::Sweep {
+                nas: other_nas,
+                delay: other_delay,
+            } => nas.is_same(other_nas) && *delay == *other_delay,
             _ => false,
         },
         Act::Tick => match other {
@@ -108,8 +118,10 @@ fn is_alive(
     session: &Octets,
     bundle: &Option<Octets>,
     class: Option<u64>,
+    station: &Option<Octets>,
 ) -> bool
-    ensures { IsTrue result ↔ (act.now ≡ Alive nas.now session.now bundle.now class) }
+    ensures { IsTrue result ↔
+        (act.now ≡ Alive nas.now session.now bundle.now class station.now) }
 {
     match act {
         Act::Alive {
@@ -117,23 +129,25 @@ fn is_alive(
             session: other_session,
             bundle: other_bundle,
             class: other_class,
+            station: other_station,
         } => {
             other_nas.is_same(nas)
                 && *other_session == *session
-                && same_bundle(other_bundle, bundle)
+                && same_option(other_bundle, bundle)
                 && same_class(*other_class, class)
+                && same_option(other_station, station)
         }
         _ => false,
     }
 }
 
-/// Whether two optional bundle ids are equal.
-fn same_bundle(bundle: &Option<Octets>, other: &Option<Octets>) -> bool
-    ensures { IsTrue result ↔ (bundle.now ≡ other.now) }
+/// Whether two bundle ids or two stations are equal, as far as there are any.
+fn same_option(octets: &Option<Octets>, other: &Option<Octets>) -> bool
+    ensures { IsTrue result ↔ (octets.now ≡ other.now) }
 {
-    match bundle {
-        Some(id) => match other {
-            Some(other_id) => *id == *other_id,
+    match octets {
+        Some(octets) => match other {
+            Some(other) => *octets == *other,
             None => false,
         },
         None => other.is_none(),

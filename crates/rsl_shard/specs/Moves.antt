@@ -21,7 +21,7 @@ moves_of config moment (meanings.Own account act) =
     One (account % config.settings.shards)
     (Own account (record { moment = moment; act = act }))
 moves_of config moment (meanings.Stray note) = One 0 (Stray moment note)
-moves_of config moment (meanings.Restart nas) = Each (Sweep moment nas)
+moves_of config moment (meanings.Restart nas delay) = Each (Sweep moment nas delay)
 moves_of config moment meanings.Bare = Nothing
 moves_of config moment meanings.Reject = Nothing
 
@@ -60,7 +60,8 @@ AreTaken config (Each moved) = IsOfAll moved
 -- the event of a move for an account of the shard: its own event, a sweep or a tick
 abbrev pub event_to : (account : ℕ) → Move → Option Event
 event_to account (Own other event) = if other == account then Some event else None
-event_to account (Sweep moment nas) = Some (record { moment = moment; act = acts.Sweep nas })
+event_to account (Sweep moment nas delay) =
+    Some (record { moment = moment; act = acts.Sweep nas delay })
 event_to account (Tick moment) = Some (record { moment = moment; act = acts.Tick })
 event_to account (Stray moment note) = None
 

@@ -82,17 +82,17 @@ fn is_of_one_account(act: &Act) -> bool
     }
 }
 
-/// Sweeps each book.
+/// Sweeps each book, of an access server that restarted `delay` seconds ago.
 #[tactic(auto, using(crate::proofs::Moving::each_steps))]
-fn sweep_each(books: &mut [Book], moment: u64, nas: &Nas)
+fn sweep_each(books: &mut [Book], moment: u64, nas: &Nas, delay: u64)
     requires { All IsWithinLimit books.old }
     ensures books { books.new ≡
-        map (step_by (Some (record { moment = moment; act = Sweep nas.now }))) books.old }
+        map (step_by (Some (record { moment = moment; act = Sweep nas.now delay }))) books.old }
     ensures limit { All IsWithinLimit books.new }
     ensures len { length books.new ≡ length books.old }
 {
     for at in 0..books.len() {
-        books[at].sweep(moment, nas);
+        books[at].sweep(moment, nas, delay);
     }
 }
 
@@ -262,7 +262,7 @@ impl Books {
     {
         match moved {
             Move::Own { account, event } => self.own_lent(alloc, *account, event),
-            Move::Sweep { moment, nas } => Ok(self.sweep(*moment, nas)),
+            Move::Sweep { moment, nas, delay } => Ok(self.sweep(*moment, nas, *delay)),
             Move::Tick { moment } => Ok(self.tick(*moment)),
             Move::Stray { .. } => Ok(Decision::Done),
         }
@@ -297,14 +297,14 @@ impl Books {
         self.list[index].apply(event)
     }
 
-    /// Sweeps each book.
-    pub fn sweep(&mut self, moment: u64, nas: &Nas) -> Decision
+    /// Sweeps each book, of an access server that restarted `delay` seconds ago.
+    pub fn sweep(&mut self, moment: u64, nas: &Nas, delay: u64) -> Decision
         ensures setup { self.new.setup ≡ self.old.setup }
         ensures books { self.new.books ≡
-            books_after self.old.setup self.old.books (moves.Sweep moment nas.now) }
+            books_after self.old.setup self.old.books (moves.Sweep moment nas.now delay) }
         ensures decision { result ≡ Decision.Done }
     {
-        sweep_each(&mut self.list, moment, nas);
+        sweep_each(&mut self.list, moment, nas, delay);
         Decision::Done
     }
 

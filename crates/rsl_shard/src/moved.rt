@@ -20,6 +20,8 @@ pub enum Move {
         moment: u64,
         /// The access server.
         nas: Nas,
+        /// How many seconds ago it restarted.
+        delay: u64,
     },
     /// Time has passed, for every account of the shard.
     Tick {
@@ -45,9 +47,10 @@ impl Move {
                 account: *account,
                 event: event.try_copy(alloc)?,
             },
-            Move::Sweep { moment, nas } => Move::Sweep {
+            Move::Sweep { moment, nas, delay } => Move::Sweep {
                 moment: *moment,
                 nas: nas.try_copy(alloc)?,
+                delay: *delay,
             },
             Move::Tick { moment } => Move::Tick { moment: *moment },
             Move::Stray { moment, note } => Move::Stray {

@@ -46,7 +46,7 @@ impl Moves {
                 shard: config.shard_of(0),
                 moved: Move::Stray { moment, note },
             },
-            Meaning::Restart { nas } => Moves::Each(Move::Sweep { moment, nas }),
+            Meaning::Restart { nas, delay } => Moves::Each(Move::Sweep { moment, nas, delay }),
             Meaning::Bare | Meaning::Reject => Moves::Nothing,
         }
     }

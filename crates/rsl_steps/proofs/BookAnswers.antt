@@ -56,7 +56,7 @@ module _ (decides : DecisionLaw) (are_of : BooksAreThoseOfThePast) where
   same_decision : (config : Configuration) (boot : ℕ) (before : List Step) (moment : ℕ) (found : Meaning) → decision_on config boot before moment found ≡ decision_by_book config boot before moment found
   same_decision config boot before moment Bare = refl
   same_decision config boot before moment Reject = refl
-  same_decision config boot before moment (Restart nas) = refl
+  same_decision config boot before moment (Restart nas delay) = refl
   same_decision config boot before moment (Stray note) = refl
   same_decision config boot before moment (Own account act) = by (slice_get config.accounts account)
     where
@@ -74,6 +74,6 @@ module _ (decides : DecisionLaw) (are_of : BooksAreThoseOfThePast) where
       (same_decision config boot before moment found)
 
   pub same_answer : (config : Configuration) (boot : ℕ) (before : List Step) (step : Step) → answer_by_book config boot before step ≡ answer_after config boot before step
-  same_answer config boot before (steps.Sweep shard moment nas) = refl
+  same_answer config boot before (steps.Sweep shard moment nas delay) = refl
   same_answer config boot before (steps.Tick shard moment) = refl
   same_answer config boot before (Datagram moment port source octets) = sym (same_by config boot before moment source octets (meaning config boot port source octets))

@@ -24,7 +24,7 @@ not_both : (one other moment : ℕ) (r : Result Meaning Dropped) → one ≢ oth
 not_both one other moment (Err dropped) differ own = absurd (no own)
 not_both one other moment (Ok Bare) differ own = absurd (no own)
 not_both one other moment (Ok Reject) differ own = absurd (no own)
-not_both one other moment (Ok (Restart nas)) differ own = absurd (no own)
+not_both one other moment (Ok (Restart nas delay)) differ own = absurd (no own)
 not_both one other moment (Ok (Stray note)) differ own = absurd (no own)
 not_both one other moment (Ok (Own number act)) differ own = by (number == one) (number == other) refl refl own
   where
@@ -35,7 +35,7 @@ not_both one other moment (Ok (Own number act)) differ own = by (number == one) 
 
 nothing_to : (config : Configuration) (boot one other : ℕ) (step : Step) → one ≢ other → IsTrue (is_own_packet config boot one step) → event_of config boot other step ≡ None
 nothing_to config boot one other (Datagram moment port source octets) differ own = not_both one other moment (meaning config boot port source octets) differ own
-nothing_to config boot one other (steps.Sweep shard moment nas) differ own = absurd (no own)
+nothing_to config boot one other (steps.Sweep shard moment nas delay) differ own = absurd (no own)
 nothing_to config boot one other (steps.Tick shard moment) differ own = absurd (no own)
 
 other_way : (a b : ℕ) → (a == b) ≡ false → a ≡ b → ⊥

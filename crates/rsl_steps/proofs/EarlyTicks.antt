@@ -138,13 +138,13 @@ module _ (early : ForOneAccount) where
   event_in_moment account moment (Err dropped) = tt
   event_in_moment account moment (Ok Bare) = tt
   event_in_moment account moment (Ok Reject) = tt
-  event_in_moment account moment (Ok (Restart nas)) = tt
+  event_in_moment account moment (Ok (Restart nas delay)) = tt
   event_in_moment account moment (Ok (Stray note)) = tt
   event_in_moment account moment (Ok (Own other act)) = has_moment_if (other == account) moment (record { moment = moment; act = act }) refl
 
   event_of_moment : (config : Configuration) (boot account : ℕ) (step : Step) → HasMoment (moment_of step) (event_of config boot account step)
   event_of_moment config boot account (Datagram moment port source octets) = event_in_moment account moment (meaning config boot port source octets)
-  event_of_moment config boot account (steps.Sweep shard moment nas) = has_moment_if (is_of_shard config account shard) moment (record { moment = moment; act = acts.Sweep nas }) refl
+  event_of_moment config boot account (steps.Sweep shard moment nas delay) = has_moment_if (is_of_shard config account shard) moment (record { moment = moment; act = acts.Sweep nas delay }) refl
   event_of_moment config boot account (steps.Tick shard moment) = has_moment_if (is_of_shard config account shard) moment (record { moment = moment; act = acts.Tick }) refl
 
   append_later : (moment : ℕ) (one other : List Event) → AreLater moment one → AreLater moment other → AreLater moment (one ++ other)
@@ -206,7 +206,7 @@ module _ (early : ForOneAccount) where
       → decision_on config boot (since ++ steps.Tick shard moment ∷ before) at found ≡ decision_on config boot (since ++ before) at found
   decided_early config boot shard moment before since at Bare later le = refl
   decided_early config boot shard moment before since at Reject later le = refl
-  decided_early config boot shard moment before since at (Restart nas) later le = refl
+  decided_early config boot shard moment before since at (Restart nas delay) later le = refl
   decided_early config boot shard moment before since at (Stray note) later le = refl
   decided_early config boot shard moment before since at (Own account act) later le = by (slice_get config.accounts account)
     where
@@ -218,7 +218,7 @@ module _ (early : ForOneAccount) where
 
   answered_early : (config : Configuration) (boot shard moment : ℕ) (before since : List Step) (step : Step) → AreStepsLater moment since → moment ≤ moment_of step
       → answer_after config boot (since ++ steps.Tick shard moment ∷ before) step ≡ answer_after config boot (since ++ before) step
-  answered_early config boot shard moment before since (steps.Sweep number at nas) later le = refl
+  answered_early config boot shard moment before since (steps.Sweep number at nas delay) later le = refl
   answered_early config boot shard moment before since (steps.Tick number at) later le = refl
   answered_early config boot shard moment before since (Datagram at port source octets) later le = by (meaning config boot port source octets)
     where

@@ -50,7 +50,7 @@ of_meaning : (config : Configuration) (account moment : ℕ) (r : Result Meaning
 of_meaning config account moment (Err dropped) = refl
 of_meaning config account moment (Ok Bare) = refl
 of_meaning config account moment (Ok Reject) = refl
-of_meaning config account moment (Ok (Restart nas)) = refl
+of_meaning config account moment (Ok (Restart nas delay)) = refl
 of_meaning config account moment (Ok (Stray note)) =
     of_stray (account % config.settings.shards) account (moves.Stray moment note) refl (0 == account % config.settings.shards)
 of_meaning config account moment (Ok (Own other act)) = of_own config account other moment act
@@ -64,8 +64,8 @@ chosen account moved event is false = refl
 of_step : (config : Configuration) (boot account : ℕ) (step : Step)
     → event_to_option account (move_of config boot (account % config.settings.shards) step) ≡ event_of config boot account step
 of_step config boot account (Datagram moment port source octets) = of_meaning config account moment (meaning config boot port source octets)
-of_step config boot account (steps.Sweep shard moment nas) =
-    chosen account (moves.Sweep moment nas) (record { moment = moment; act = acts.Sweep nas }) refl (account % config.settings.shards == shard)
+of_step config boot account (steps.Sweep shard moment nas delay) =
+    chosen account (moves.Sweep moment nas delay) (record { moment = moment; act = acts.Sweep nas delay }) refl (account % config.settings.shards == shard)
 of_step config boot account (steps.Tick shard moment) =
     chosen account (moves.Tick moment) (record { moment = moment; act = acts.Tick }) refl (account % config.settings.shards == shard)
 

@@ -75,10 +75,10 @@ one_coming : (config : Configuration) (boot account shards numbers : ℕ) (comin
     → own_events config boot account (steps_to numbers coming) ≡ own_events (with_shards config shards) boot account (steps_to numbers coming)
 one_coming config boot account shards numbers (Packet moment port source octets) some others within also =
     one_packet config boot account shards moment port source octets
-one_coming config boot account shards numbers (Restart moment nas) some others within also =
-    let event : Event = record { moment = moment; act = acts.Sweep nas } in
-    to_shards config boot account numbers (λ (shard : ℕ). steps.Sweep shard moment nas) event (λ shard. refl) some within
-    ∙ sym (to_shards (with_shards config shards) boot account numbers (λ (shard : ℕ). steps.Sweep shard moment nas) event (λ shard. refl) others also)
+one_coming config boot account shards numbers (Restart moment nas delay) some others within also =
+    let event : Event = record { moment = moment; act = acts.Sweep nas delay } in
+    to_shards config boot account numbers (λ (shard : ℕ). steps.Sweep shard moment nas delay) event (λ shard. refl) some within
+    ∙ sym (to_shards (with_shards config shards) boot account numbers (λ (shard : ℕ). steps.Sweep shard moment nas delay) event (λ shard. refl) others also)
 one_coming config boot account shards numbers (Time moment) some others within also =
     let event : Event = record { moment = moment; act = acts.Tick } in
     to_shards config boot account numbers (λ (shard : ℕ). steps.Tick shard moment) event (λ shard. refl) some within

@@ -193,8 +193,8 @@ decided_right config boot before moment port source datagram Bare decision old n
     record { right = d.0; moved = moved_none config boot before moment port source datagram (Ok Bare) old new is (λ _. refl) are d.1 }
 decided_right config boot before moment port source datagram Reject decision old new is has are d =
     record { right = d.0; moved = moved_none config boot before moment port source datagram (Ok Reject) old new is (λ _. refl) are d.1 }
-decided_right config boot before moment port source datagram (Restart nas) decision old new is has are d =
-    record { right = d.0; moved = moved_none config boot before moment port source datagram (Ok (Restart nas)) old new is (λ _. refl) are d.1 }
+decided_right config boot before moment port source datagram (Restart nas delay) decision old new is has are d =
+    record { right = d.0; moved = moved_none config boot before moment port source datagram (Ok (Restart nas delay)) old new is (λ _. refl) are d.1 }
 decided_right config boot before moment port source datagram (Stray note) decision old new is has are d =
     record { right = d.decided; moved = moved_stray config boot before moment port source datagram note decision old new is are d }
 decided_right config boot before moment port source datagram (Own account act) decision old new is has are d =
@@ -253,13 +253,13 @@ takes_quiet config boot before step shard moved old new names are (inr out) =
     shards_still config boot before step old new are out.same
     (λ number less. names number ∙ else_other number shard (Some moved) None (λ same. omega (arith, same, less, are.count, out.past)))
 
-pub takes_sweep : (config : Configuration) (boot : ℕ) (before : List Step) (shard moment : ℕ) (nas : Nas) (given : Answer) (old new : List ShardSeen) → AreShards config boot before old
-    → IsQuietAt given shard (moves.Sweep moment nas) old new → Takes config boot before (steps.Sweep shard moment nas) given old new
-takes_sweep config boot before shard moment nas answers.Refused old new are quiet = quiet
-takes_sweep config boot before shard moment nas answers.Quiet old new are quiet =
-    record { answered = refl; moved = takes_quiet config boot before (steps.Sweep shard moment nas) shard (moves.Sweep moment nas) old new (λ number. refl) are quiet }
-takes_sweep config boot before shard moment nas (answers.Reply word octets) old new are quiet = absurd quiet
-takes_sweep config boot before shard moment nas (answers.Dropped dropped) old new are quiet = absurd quiet
+pub takes_sweep : (config : Configuration) (boot : ℕ) (before : List Step) (shard moment : ℕ) (nas : Nas) (delay : ℕ) (given : Answer) (old new : List ShardSeen) → AreShards config boot before old
+    → IsQuietAt given shard (moves.Sweep moment nas delay) old new → Takes config boot before (steps.Sweep shard moment nas delay) given old new
+takes_sweep config boot before shard moment nas delay answers.Refused old new are quiet = quiet
+takes_sweep config boot before shard moment nas delay answers.Quiet old new are quiet =
+    record { answered = refl; moved = takes_quiet config boot before (steps.Sweep shard moment nas delay) shard (moves.Sweep moment nas delay) old new (λ number. refl) are quiet }
+takes_sweep config boot before shard moment nas delay (answers.Reply word octets) old new are quiet = absurd quiet
+takes_sweep config boot before shard moment nas delay (answers.Dropped dropped) old new are quiet = absurd quiet
 
 pub takes_tick : (config : Configuration) (boot : ℕ) (before : List Step) (shard moment : ℕ) (given : Answer) (old new : List ShardSeen) → AreShards config boot before old
     → IsQuietAt given shard (moves.Tick moment) old new → Takes config boot before (steps.Tick shard moment) given old new

@@ -42,8 +42,8 @@ use Rattle.rsl_steps.specs.declared.step.Step.TheVariants.{Datagram}
 
 -- the word told on an event: a sweep or a tick is told nothing
 abbrev word_on : Act → Decision → Option Said
-word_on (Ask key nas) decision = Some (said_of decision)
-word_on (Alive nas session bundle class) decision = Some words.Account
+word_on (Ask key nas station) decision = Some (said_of decision)
+word_on (Alive nas session bundle class station) decision = Some words.Account
 word_on (Stop nas session) decision = Some words.Account
 word_on _ decision = None
 
@@ -128,10 +128,10 @@ decision_found config boot number account moment act entry before same there =
     ∙ ap (λ (o : Option Account). option_map_or (λ (found : Account). decision_after found.rules (own config boot account before) (record { moment = moment; act = act })) o Done) there
 
 word_found : (number : ℕ) (act : Act) (one other : Decision) → IsOfOneAccount act → one ≡ other → word_on act one ≡ Some (said (Own number act) other)
-word_found number (Ask key nas) one other own same = ap (λ (d : Decision). Some (said_of d)) same
-word_found number (Alive nas session bundle class) one other own same = refl
+word_found number (Ask key nas station) one other own same = ap (λ (d : Decision). Some (said_of d)) same
+word_found number (Alive nas session bundle class station) one other own same = refl
 word_found number (Stop nas session) one other own same = refl
-word_found number (acts.Sweep nas) one other own same = absurd own
+word_found number (acts.Sweep nas delay) one other own same = absurd own
 word_found number acts.Tick one other own same = absurd own
 
 datagram_told : (config : Configuration) (boot account : ℕ) (entry : Account) (before : List Step) (moment : ℕ) (port : Port) (source : Source) (octets : List ℕ) → slice_get config.accounts account ≡ Some entry
@@ -140,7 +140,7 @@ datagram_told : (config : Configuration) (boot account : ℕ) (entry : Account) 
 datagram_told config boot account entry before moment port source octets there (Err dropped) is = refl
 datagram_told config boot account entry before moment port source octets there (Ok Bare) is = refl
 datagram_told config boot account entry before moment port source octets there (Ok Reject) is = refl
-datagram_told config boot account entry before moment port source octets there (Ok (Restart nas)) is = refl
+datagram_told config boot account entry before moment port source octets there (Ok (Restart nas delay)) is = refl
 datagram_told config boot account entry before moment port source octets there (Ok (Stray note)) is = refl
 datagram_told config boot account entry before moment port source octets there (Ok (Own number act)) is = by (number == account) refl
   where
@@ -159,9 +159,9 @@ step_told : (config : Configuration) (boot account : ℕ) (entry : Account) (bef
 step_told config boot account entry before (Datagram moment port source octets) there =
     datagram_told config boot account entry before moment port source octets there (meaning config boot port source octets) refl
     ∙ told_same config boot account moment port source octets (answer_after config boot before (Datagram moment port source octets))
-step_told config boot account entry before (steps.Sweep shard moment nas) there = by (is_of_shard config account shard)
+step_told config boot account entry before (steps.Sweep shard moment nas delay) there = by (is_of_shard config account shard)
   where
-    by : (b : Bool) → word_after entry.rules (own config boot account before) (cond b (Some (record { moment = moment; act = acts.Sweep nas })) None) ≡ None
+    by : (b : Bool) → word_after entry.rules (own config boot account before) (cond b (Some (record { moment = moment; act = acts.Sweep nas delay })) None) ≡ None
     by true = refl
     by false = refl
 step_told config boot account entry before (steps.Tick shard moment) there = by (is_of_shard config account shard)

@@ -52,7 +52,7 @@ abbrev pub answer_by_book : Configuration → (boot : ℕ) → (before : List St
 answer_by_book config boot before (Datagram moment port source octets) =
     answer_with_book config boot before moment source octets
     (meaning config boot port source octets)
-answer_by_book config boot before (steps.Sweep shard moment nas) = answers.Quiet
+answer_by_book config boot before (steps.Sweep shard moment nas delay) = answers.Quiet
 answer_by_book config boot before (steps.Tick shard moment) = answers.Quiet
 
 -- Each step has its answer. A refused one counts as if it had not come.

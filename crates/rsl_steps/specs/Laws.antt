@@ -99,14 +99,14 @@ PacketsOfTwoAccountsCommute =
 -- shard together
 pub data Coming : Type 0 where
   Packet : (moment : ℕ) → Port → Source → (octets : List ℕ) → Coming
-  Restart : (moment : ℕ) → Nas → Coming
+  Restart : (moment : ℕ) → Nas → (delay : ℕ) → Coming
   Time : (moment : ℕ) → Coming
 
 -- its steps, for this many shard numbers
 abbrev pub steps_to : (shards : ℕ) → Coming → List Step
 steps_to shards (Packet moment port source octets) = Datagram moment port source octets ∷ []
-steps_to shards (Restart moment nas) =
-    map (λ shard. steps.Sweep shard moment nas) (range_with_len 0 shards)
+steps_to shards (Restart moment nas delay) =
+    map (λ shard. steps.Sweep shard moment nas delay) (range_with_len 0 shards)
 steps_to shards (Time moment) = map (λ shard. steps.Tick shard moment) (range_with_len 0 shards)
 
 abbrev pub with_shards : Configuration → (shards : ℕ) → Configuration
@@ -125,7 +125,7 @@ TheNumberOfShardsDoesNotMatter =
 
 abbrev pub moment_of : Step → ℕ
 moment_of (Datagram moment port source octets) = moment
-moment_of (steps.Sweep shard moment nas) = moment
+moment_of (steps.Sweep shard moment nas delay) = moment
 moment_of (steps.Tick shard moment) = moment
 
 -- A tick before steps none of which has a lower moment: they are answered as without it, octet for

@@ -29,8 +29,8 @@ move_in config shard moment (Err dropped) = None
 abbrev pub move_of : Configuration → (boot shard : ℕ) → Step → Option Move
 move_of config boot shard (Datagram moment port source octets) =
     move_in config shard moment (meaning config boot port source octets)
-move_of config boot shard (steps.Sweep other moment nas) =
-    if shard == other then Some (moves.Sweep moment nas) else None
+move_of config boot shard (steps.Sweep other moment nas delay) =
+    if shard == other then Some (moves.Sweep moment nas delay) else None
 move_of config boot shard (steps.Tick other moment) =
     if shard == other then Some (moves.Tick moment) else None
 

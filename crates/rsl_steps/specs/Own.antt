@@ -25,9 +25,9 @@ is_of_shard config account shard = account % config.settings.shards == shard
 abbrev pub event_of : Configuration → (boot account : ℕ) → Step → Option Event
 event_of config boot account (Datagram moment port source octets) =
     own_event account moment (meaning config boot port source octets)
-event_of config boot account (steps.Sweep shard moment nas) =
+event_of config boot account (steps.Sweep shard moment nas delay) =
     if is_of_shard config account shard
-    then Some (record { moment = moment; act = acts.Sweep nas })
+    then Some (record { moment = moment; act = acts.Sweep nas delay })
     else None
 event_of config boot account (steps.Tick shard moment) =
     if is_of_shard config account shard

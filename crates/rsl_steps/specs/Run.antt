@@ -58,7 +58,7 @@ answer_by config boot before moment source datagram (Ok meaning) =
 abbrev pub answer_after : Configuration → (boot : ℕ) → (before : List Step) → Step → Answer
 answer_after config boot before (Datagram moment port source octets) =
     answer_by config boot before moment source octets (meaning config boot port source octets)
-answer_after config boot before (steps.Sweep shard moment nas) = answers.Quiet
+answer_after config boot before (steps.Sweep shard moment nas delay) = answers.Quiet
 answer_after config boot before (steps.Tick shard moment) = answers.Quiet
 
 -- Each step has its answer. A refused one counts as if it had not come.

@@ -93,7 +93,12 @@ fn take_step(alloc: Global, config: &Config, boot: u64, shards: &mut [Shard], st
             *source,
             octets.as_slice(),
         ),
-        Step::Sweep { shard, moment, nas } => take_sweep(alloc, shards, *shard, *moment, nas),
+        Step::Sweep {
+            shard,
+            moment,
+            nas,
+            delay,
+        } => take_sweep(alloc, shards, *shard, *moment, nas, *delay),
         Step::Tick { shard, moment } => take_tick(alloc, shards, *shard, *moment),
     }
 }
@@ -136,15 +141,23 @@ fn take_datagram(
     Answer::Reply(kind.said(decision), ReplyOctets::from(octets))
 }
 
-/// Sweeps a shard, if there is one of this number.
-fn take_sweep(alloc: Global, shards: &mut [Shard], shard: u32, moment: u64, nas: &Nas) -> Answer
+/// Sweeps a shard, if there is one of this number, of an access server that restarted `delay`
+/// seconds before.
+fn take_sweep(
+    alloc: Global,
+    shards: &mut [Shard],
+    shard: u32,
+    moment: u64,
+    nas: &Nas,
+    delay: u64,
+) -> Answer
     requires { HaveShardsRoom shards.old }
-    ensures { IsQuietAt result shard (moves.Sweep moment nas.now) shards.old shards.new }
+    ensures { IsQuietAt result shard (moves.Sweep moment nas.now delay) shards.old shards.new }
 {
     let Ok(nas) = nas.try_copy(alloc) else {
         return Answer::Refused;
     };
-    move_if_there(alloc, shards, shard, Move::Sweep { moment, nas })
+    move_if_there(alloc, shards, shard, Move::Sweep { moment, nas, delay })
 }
 
 /// Ticks a shard, if there is one of this number.

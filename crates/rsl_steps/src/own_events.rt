@@ -57,14 +57,18 @@ fn event_of(
             *source,
             octets.as_slice(),
         ),
-        Step::Sweep { shard, moment, nas } if config.shard_of(account) == *shard => Ok(Some(
-            Event {
-                moment: *moment,
-                act: Act::Sweep {
-                    nas: nas.try_copy(alloc)?,
-                },
+        Step::Sweep {
+            shard,
+            moment,
+            nas,
+            delay,
+        } if config.shard_of(account) == *shard => Ok(Some(Event {
+            moment: *moment,
+            act: Act::Sweep {
+                nas: nas.try_copy(alloc)?,
+                delay: *delay,
             },
-        )),
+        })),
         Step::Tick { shard, moment } if config.shard_of(account) == *shard => Ok(Some(Event {
             moment: *moment,
             act: Act::Tick,

@@ -25,6 +25,8 @@ pub enum Step {
         moment: u64,
         /// The access server.
         nas: Nas,
+        /// How many seconds ago it restarted.
+        delay: u64,
     },
     /// Time has passed, for the accounts of one shard.
     Tick {

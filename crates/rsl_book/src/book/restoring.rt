@@ -55,7 +55,7 @@ impl Book {
     ///
     /// If no book with these rules can hold it, it is refused with the first of the faults in their
     /// order, and never cut. Nothing checks whether any events lead to it: a link may have been
-    /// touched after the clock.
+    /// touched after the clock, and a station may have any length.
     pub fn restore(alloc: Global, rules: Rules, saved: &SavedBook) -> Result<Book, RestoreFault>
         requires { RulesFit rules }
         ensures book { IfOk result (λ book. restored rules (saved_book saved.now) ≡ Ok book) }
@@ -68,7 +68,7 @@ impl Book {
     }
 
     /// `restore` in a book that was made for the account and has had no event. It allocates only
-    /// for names and ids of more than 22 octets.
+    /// for names, ids and stations of more than 22 octets.
     pub fn restore_in(alloc: Global, blank: Book, saved: &SavedBook) -> Result<Book, RestoreFault>
         requires { blank ≡ record { rules = blank.rules; book = new_book } }
         ensures book { IfOk result (λ book. restored blank.rules (saved_book saved.now) ≡ Ok book) }
@@ -127,7 +127,9 @@ impl Book {
         let nas = saved.nas.try_copy(alloc)?;
         let holder = holder_of(alloc, &saved.holder)?;
         let bundle = Octets::try_copy_option(alloc, &saved.bundle)?;
-        Ok(self.open_touched(nas, holder, bundle, saved.touched))
+        let station = Octets::try_copy_option(alloc, &saved.station)?;
+        let (opened, touched) = (saved.opened, saved.touched);
+        Ok(self.open_touched(nas, holder, bundle, station, opened, touched))
     }
 
     /// Opens saved links, if the places are then within the limit, and says whether they are.

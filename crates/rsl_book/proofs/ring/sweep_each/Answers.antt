@@ -10,5 +10,5 @@ loop-index-preserved g c =
     let few = c.loop-index-test.true in
     let long = c.loop-index.auto.all in
     let within : c.loop-index.index < length c.loop-index.all = omega (arith, few, long) in
-    changed_more (sweep_kept c.args.servers.now c.args.nas.now) c.args.all.now c.loop-index.all c.loop-index.index (get_or c.loop-index.all c.loop-index.index c.index-all-index.result) c.sweep.new.self
+    changed_more (sweep_kept c.args.servers.now c.args.nas.now c.args.delay c.args.now) c.args.all.now c.loop-index.all c.loop-index.index (get_or c.loop-index.all c.loop-index.index c.index-all-index.result) c.sweep.new.self
     few c.loop-index.invariant (get_or_default c.loop-index.all c.loop-index.index c.index-all-index.result (get_or c.loop-index.all c.loop-index.index c.index-all-index.result) within) c.sweep.ensures

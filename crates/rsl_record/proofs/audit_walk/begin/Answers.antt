@@ -1,4 +1,4 @@
-use Rattle.std.proofs.Common.{◌<◌, arith, refl}
+use Rattle.std.proofs.Common.{arith, refl}
 use Rattle.std.proofs.lemmas.Bool.{false≢true}
 use Rattle.rsl_record.proofs.Walking.{begins, begins_otherwise, begun}
 use Rattle.rsl_record.proofs.audit_walk.begin.Goals as goal

@@ -1,4 +1,3 @@
-use Rattle.std.proofs.Common.{refl}
 use Rattle.std.proofs.lemmas.Result.{err_from_is_err_and}
 use Rattle.rsl_record.proofs.Walking.{fault_of_lines, taken_more, taken_none}
 use Rattle.rsl_record.proofs.audit_walk.take_lines.Goals as goal

@@ -1,4 +1,4 @@
-use Rattle.std.proofs.Common.{ℕ, List, ◌≤◌, ◌++◌, All, map}
+use Rattle.std.proofs.Common.{ℕ, List, ◌≤◌, All, map}
 use Rattle.std.specs.List.Sorted.{IsStrictlyIncreasing}
 use Rattle.std.proofs.lemmas.Result.{err_from_is_err_and}
 use Rattle.rsl_record.proofs.Chains.{below_more}

@@ -1,4 +1,4 @@
-use Rattle.std.proofs.Common.{ℕ, ◌<◌, ◌≤◌, ◌++◌, All, map}
+use Rattle.std.proofs.Common.{ℕ, ◌<◌, ◌≤◌, All, map}
 use Rattle.std.specs.List.Sorted.{IsStrictlyIncreasing}
 use Rattle.rsl_record.specs.Faults.{IsAmong}
 use Rattle.rsl_record.specs.Receipts.{positions_of, times}

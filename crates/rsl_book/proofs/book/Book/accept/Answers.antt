@@ -44,7 +44,7 @@ invariant_of-self c =
       fit = sound.fit;
       ports = c.open.ensures.ports ∙ sound.ports;
       counted = c.open.ensures.counted;
-      limit = opened_within place.new.servers inside.links c.open.new.self (record { nas = place.result; holder = LinkReserved inside.accepts; bundle = None; touched = inside.clock }) inside.rules.places 1
+      limit = opened_within place.new.servers inside.links c.open.new.self (record { nas = place.result; holder = LinkReserved inside.accepts; bundle = None; station = c.args.station; opened = inside.clock; touched = inside.clock }) inside.rules.places 1
           (counted_again inside.servers place.new.servers inside.links links place.ensures.placed sound.counted) c.open.ensures.counted c.open.ensures.links c.open.ensures.ports
           (more_alone inside.links.ports (bundles_in (links_seen place.new.servers inside.links.list.items)) sound.counted.a_port) (omega arith);
       room = let room = sound.room in let same = c.open.ensures.room in omega arith;
@@ -63,8 +63,8 @@ returns-clause-step c =
     rw (← c.self.view_is)
     (ap (λ (book : Book). (book, Accept inside.accepts))
     (same_book inside.clock (inside.accepts + 1) inside.over
-    (opened_seen inside.servers place.new.servers (record { nas = place.result; holder = LinkReserved inside.accepts; bundle = None; touched = inside.clock }) inside.links.list.items c.open.new.self.list.items _
-    c.open.ensures.links links (reserved_seen place.new.servers place.result inside.accepts inside.clock c.args.nas place.ensures.stands))
+    (opened_seen inside.servers place.new.servers (record { nas = place.result; holder = LinkReserved inside.accepts; bundle = None; station = c.args.station; opened = inside.clock; touched = inside.clock }) inside.links.list.items c.open.new.self.list.items _
+    c.open.ensures.links links (reserved_seen place.new.servers place.result inside.accepts inside.clock c.args.station c.args.nas place.ensures.stands))
     (ap (λ (ring : Buffer (Kept DecidedAsk)). asks_seen place.new.servers ring.items) c.push.ensures
     ∙ pushed_ask inside.servers place.new.servers (record { subject = record { key = c.args.key; decision = Accept inside.accepts }; at = inside.clock; swept = false; nas = place.result }) inside.asks.items c.args.nas 8 inside.asks.capacity
     c.self.invariant.asks place.ensures.stands place.ensures.asks)

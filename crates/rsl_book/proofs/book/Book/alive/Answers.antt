@@ -8,4 +8,4 @@ pub returns-in-Some : goal.returns-in-Some
 returns-in-Some c =
     c.touch_link.ensures
     ∙ ap (λ (book : Book). let made : RuledBook = record { rules = c.args.self.now.rules; book = book } in made)
-    (alive_renews c.args.self.now.rules c.args.self.now.book (record { nas = c.args.nas; id = c.args.id }) c.args.bundle c.args.class c.in-Some.at c.in-Some.ensures.found)
+    (alive_renews c.args.self.now.rules c.args.self.now.book (record { nas = c.args.nas; id = c.args.id }) c.args.bundle c.args.class c.args.station c.in-Some.at c.in-Some.ensures.found)

@@ -8,4 +8,4 @@ pub returns-in-Some : goal.returns-in-Some
 returns-in-Some c =
     c.take_link.ensures
     ∙ ap (λ (book : Book). let made : RuledBook = record { rules = c.args.self.now.rules; book = book } in made)
-    (bind_takes c.args.self.now.rules c.args.self.now.book c.args.nas c.args.id c.args.bundle c.args.class c.in-Some.at c.in-Some.ensures.found)
+    (bind_takes c.args.self.now.rules c.args.self.now.book c.args.nas c.args.id c.args.bundle c.args.class c.args.station c.in-Some.at c.in-Some.ensures.found)

@@ -1,28 +1,19 @@
-use Rattle.std.proofs.Common.{ap, arith}
-use Rattle.rsl_accounts.specs.declared.rules.Rules.{Rules}
-use Rattle.rsl_links.proofs.Callers.{fresh_fits, fresh_full, fresh_in_place}
+use Rattle.std.proofs.Common.{sym, ◌∙◌}
+use Rattle.rsl_links.proofs.Callers.{fresh_alone, fresh_in_place, fresh_tight}
+use Rattle.rsl_book.proofs.book.Book.fresh_ask.Goals.{in_default-via-in-Some+else-fits_without, in_default-via-in_default}
 use Rattle.rsl_book.proofs.book.Book.fresh_ask.Goals as goal
-
-pub returns-then-held-rules-clause-step : goal.returns-then-held-rules-clause-step
-returns-then-held-rules-clause-step c =
-    let value = c.args.self.now in
-    let held = c.held.ensures.places in
-    let places = ap (λ (rules : Rules). rules.places) c.rules.ensures.rules in
-    let free = c.if-held-rules.true in
-    fresh_fits value.rules value.book c.args.key c.args.nas (c.accept.new.self.book, c.accept.result) (omega arith) c.accept.ensures.step
-
-pub returns-in-None-clause-step : goal.returns-in-None-clause-step
-returns-in-None-clause-step c =
-    let value = c.args.self.now in
-    let held = c.held.ensures.places in
-    let places = ap (λ (rules : Rules). rules.places) c.rules.ensures.rules in
-    let full = c.if-held-rules.false in
-    fresh_full value.rules value.book c.args.key c.args.nas (c.refuse.new.self.book, c.refuse.result) (omega arith) c.in-None.ensures.missed c.refuse.ensures.step
 
 pub returns-in-Some-clause-step : goal.returns-in-Some-clause-step
 returns-in-Some-clause-step c =
     let value = c.args.self.now in
-    let held = c.held.ensures.places in
-    let places = ap (λ (rules : Rules). rules.places) c.rules.ensures.rules in
-    let full = c.if-held-rules.false in
-    fresh_in_place value.rules value.book c.args.key c.args.nas c.in-Some.at (c.ask_in_place.new.self.book, c.ask_in_place.result) (omega arith) c.in-Some.ensures.found c.ask_in_place.ensures.step
+    fresh_in_place value.rules value.book c.args.key c.args.nas c.args.station (c.accept_in_place.new.self.book, c.accept_in_place.result) c.in-Some.at c.in-Some.ensures.found
+    (sym c.fits_without.ensures ∙ c.if-fits_without.true) c.accept_in_place.ensures.step
+
+pub returns-in_default-clause-step : goal.returns-in_default-clause-step
+returns-in_default-clause-step c =
+    let value = c.args.self.now in
+    elim c.in_default.branch [
+      | in_default-via-in-Some+else-fits_without w ↦ fresh_tight value.rules value.book c.args.key c.args.nas c.args.station (c.placed_ask.new.self.book, c.placed_ask.result) w.in-Some.at w.in-Some.ensures.found
+          (sym w.fits_without.ensures ∙ w.if-fits_without.false) c.placed_ask.ensures.step
+      | in_default-via-in_default w ↦ fresh_alone value.rules value.book c.args.key c.args.nas c.args.station (c.placed_ask.new.self.book, c.placed_ask.result) w.in_default.ensures.missed c.placed_ask.ensures.step
+    ]

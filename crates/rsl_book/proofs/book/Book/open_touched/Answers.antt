@@ -32,7 +32,7 @@ invariant_of-self c =
       fit = sound.fit;
       ports = c.open.ensures.ports ∙ sound.ports;
       counted = c.open.ensures.counted;
-      limit = opened_within place.new.servers inside.links c.open.new.self (record { nas = place.result; holder = c.args.holder; bundle = c.args.bundle; touched = c.args.touched }) inside.rules.places (cond c.adds_a_place.result 1 0)
+      limit = opened_within place.new.servers inside.links c.open.new.self (record { nas = place.result; holder = c.args.holder; bundle = c.args.bundle; station = c.args.station; opened = c.args.opened; touched = c.args.touched }) inside.rules.places (cond c.adds_a_place.result 1 0)
           (counted_again inside.servers place.new.servers inside.links links place.ensures.placed sound.counted) c.open.ensures.counted c.open.ensures.links c.open.ensures.ports
           c.adds_a_place.ensures (let same = one_of c.adds_a_place.result c.from-more.result c.from-more.ensures in omega arith);
       room = let room = sound.room in let same = c.open.ensures.room in omega arith;
@@ -49,8 +49,8 @@ returns-then-self-more-clause-put c fits =
     place.ensures.links in
     rw (← c.self.view_is)
     (same_value inside.rules inside.clock inside.accepts inside.over
-    (opened_seen inside.servers place.new.servers (record { nas = place.result; holder = c.args.holder; bundle = c.args.bundle; touched = c.args.touched }) inside.links.list.items c.open.new.self.list.items _
-    c.open.ensures.links links (as_saved_seen place.new.servers place.result c.args.touched c.args.holder c.args.bundle c.args.nas place.ensures.stands))
+    (opened_seen inside.servers place.new.servers (record { nas = place.result; holder = c.args.holder; bundle = c.args.bundle; station = c.args.station; opened = c.args.opened; touched = c.args.touched }) inside.links.list.items c.open.new.self.list.items _
+    c.open.ensures.links links (as_saved_seen place.new.servers place.result c.args.opened c.args.touched c.args.holder c.args.bundle c.args.station c.args.nas place.ensures.stands))
     place.ensures.asks place.ensures.stops)
 
 pub returns-then-self-more-clause-fits : goal.returns-then-self-more-clause-fits

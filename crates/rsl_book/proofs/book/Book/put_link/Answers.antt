@@ -7,7 +7,7 @@ pub returns-clause-put : goal.returns-clause-put
 returns-clause-put c fits =
     c.open_touched.ensures.put fits
     ∙ ap (λ (link : BookLink). with_links c.args.self.now (c.args.self.now.book.links ++ link ∷ []))
-    (as_saved c.args.saved.now c.in_ok-nas.nas c.in_ok-holder.holder c.in_ok-bundle.bundle c.in_ok-nas.ensures.copy c.in_ok-holder.ensures c.in_ok-bundle.ensures.copy)
+    (as_saved c.args.saved.now c.in_ok-nas.nas c.in_ok-holder.holder c.in_ok-bundle.bundle c.in_ok-station.station c.in_ok-nas.ensures.copy c.in_ok-holder.ensures c.in_ok-bundle.ensures.copy c.in_ok-station.ensures.copy)
 
 pub returns-clause-full : goal.returns-clause-full
 returns-clause-full c full =

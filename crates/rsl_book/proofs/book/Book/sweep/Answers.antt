@@ -8,4 +8,4 @@ pub returns-clause-step : goal.returns-clause-step
 unfolding step
 returns-clause-step c =
     ap (λ (value : RuledBook). (value.book, Done)) c.sweep_at.ensures
-    ∙ ap (λ (value : RuledBook). (sweep value.book c.args.nas.now, Done)) c.come_to.ensures
+    ∙ ap (λ (value : RuledBook). (sweep value.book c.args.nas.now c.args.delay, Done)) c.come_to.ensures

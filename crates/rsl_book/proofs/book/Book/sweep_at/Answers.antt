@@ -15,5 +15,5 @@ returns c =
     let inside = c.self.inside in
     rw (← c.self.view_is)
     (same_value inside.rules inside.clock inside.accepts inside.over c.sweep.ensures.links
-    (ap (λ (ring : Buffer (Kept DecidedAsk)). asks_seen inside.servers ring.items) c.sweep-2.ensures ∙ asks_swept inside.servers c.args.nas.now inside.asks.items)
-    (ap (λ (ring : Buffer (Kept EndedSession)). stops_seen inside.servers ring.items) c.sweep-3.ensures ∙ stops_swept inside.servers c.args.nas.now inside.stops.items))
+    (ap (λ (ring : Buffer (Kept DecidedAsk)). asks_seen inside.servers ring.items) c.sweep-2.ensures ∙ asks_swept inside.servers c.args.nas.now c.args.delay inside.clock inside.asks.items)
+    (ap (λ (ring : Buffer (Kept EndedSession)). stops_seen inside.servers ring.items) c.sweep-3.ensures ∙ stops_swept inside.servers c.args.nas.now c.args.delay inside.clock inside.stops.items))

@@ -15,5 +15,5 @@ returns c =
     rw (← c.self.view_is)
     (same_value inside.rules inside.clock inside.accepts inside.over
     (ap (links_seen inside.servers) c.touch_at.ensures.links
-    ∙ seen_changed inside.servers (touched_link inside.clock c.args.bundle) (touch_here inside.clock c.args.bundle) inside.links.list.items c.args.at
-    (seen_touched inside.servers inside.clock c.args.bundle)) refl refl)
+    ∙ seen_changed inside.servers (touched_link inside.clock c.args.bundle c.args.station) (touch_here inside.clock c.args.bundle c.args.station) inside.links.list.items c.args.at
+    (seen_touched inside.servers inside.clock c.args.bundle c.args.station)) refl refl)

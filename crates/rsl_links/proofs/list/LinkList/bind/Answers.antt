@@ -27,7 +27,6 @@ pub invariant_of-self : goal.invariant_of-self
 invariant_of-self c =
     record {
       kept = c.bind.ensures.kept;
-      kinds = c.enter.ensures.kinds (c.withdraw.ensures.kinds c.self.invariant.kinds);
       orders = c.enter.ensures.orders;
       room = let one = c.bind.ensures.room in
           roomy_for (vec_capacity c.self.inside.slots.slots) _ c.enter.new.self (omega (arith, one))

@@ -1,6 +1,5 @@
 use Rattle.std.proofs.Common.{◌≡◌, length, ap, ◌∙◌, rules}
 use Rattle.std.specs.Prelude.{count_by}
-use Rattle.rsl_links.specs.declared.order.OrderKind.{OrderKind}
 use Rattle.rsl_links.specs.declared.order.OrderKind.TheVariants.{Bound}
 use Rattle.rsl_links.specs.LinkList.{RoomyList}
 use Rattle.rsl_links.specs.Order.{is_of}
@@ -15,7 +14,6 @@ returns c =
     let order = c.self.inside.orders.bound in
     let ranked = c.self.invariant.orders.bound in
     let long : c.len.result ≡ length order.slots.items = search rules in
-    long ∙ long_ranked order.kind (links_of slots) (opened_of slots) (length (links_of slots)) order.slots.items ranked
-    ∙ counted_all order.kind (links_of slots) ranked.positions ranked.in_order
-    ∙ ap (λ (kind : OrderKind). count_by (is_of kind) (links_of slots)) c.self.invariant.kinds.bound
+    long ∙ long_ranked Bound (links_of slots) (opened_of slots) (length (links_of slots)) order.slots.items ranked
+    ∙ counted_all Bound (links_of slots) ranked.positions ranked.in_order
     ∙ ap (λ (value : RoomyList). count_by (is_of Bound) value.items) c.self.view_is

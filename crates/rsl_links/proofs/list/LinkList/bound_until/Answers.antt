@@ -1,8 +1,7 @@
-use Rattle.std.proofs.Common.{◌∷◌, [], length, ap, ◌∙◌, subst}
+use Rattle.std.proofs.Common.{◌∷◌, [], length, ap, ◌∙◌}
 use Rattle.std.specs.Prelude.{count_by}
-use Rattle.rsl_links.specs.declared.order.OrderKind.{OrderKind}
+use Rattle.rsl_links.specs.declared.order.OrderKind.TheVariants.{Bound}
 use Rattle.rsl_links.specs.LinkList.{RoomyList, is_bound_until}
-use Rattle.rsl_links.specs.Order.{IsOrderOf, IsSplit, key_at}
 use Rattle.rsl_links.specs.Slots.{links_of, opened_of}
 use Rattle.rsl_links.proofs.Ranking.{searchable, split_last}
 use Rattle.rsl_links.proofs.Sought.{counted_until}
@@ -12,16 +11,13 @@ pub count_before-requires : goal.count_before-requires
 count_before-requires c =
     let slots = c.self.inside.slots in
     let order = c.self.inside.orders.bound in
-    searchable order.kind slots.slots.items (opened_of slots) c.self.invariant.kept.sequenced.rising (length (links_of slots)) order.slots.items c.self.invariant.orders.bound
+    searchable Bound slots.slots.items (opened_of slots) c.self.invariant.kept.sequenced.rising (length (links_of slots)) order.slots.items c.self.invariant.orders.bound
 
 pub returns : goal.returns
 returns c =
     let slots = c.self.inside.slots in
     let order = c.self.inside.orders.bound in
     let ranked = c.self.invariant.orders.bound in
-    let is = c.self.invariant.kinds.bound in
-    counted_until c.args.clock (links_of slots) ranked.positions c.count_before.result
-    (subst (λ (kind : OrderKind). IsOrderOf kind (links_of slots) ranked.positions) is ranked.in_order)
-    (subst (λ (kind : OrderKind). IsSplit (key_at kind (links_of slots)) ranked.positions (c.args.clock ∷ [], length (links_of slots)) c.count_before.result) is
-    (split_last order.kind slots.slots.items (opened_of slots) c.self.invariant.kept.sequenced.rising (length (links_of slots)) order.slots.items ranked (c.args.clock ∷ []) c.count_before.result c.count_before.ensures))
+    counted_until c.args.clock (links_of slots) ranked.positions c.count_before.result ranked.in_order
+    (split_last Bound slots.slots.items (opened_of slots) c.self.invariant.kept.sequenced.rising (length (links_of slots)) order.slots.items ranked (c.args.clock ∷ []) c.count_before.result c.count_before.ensures)
     ∙ ap (λ (value : RoomyList). count_by (is_bound_until c.args.clock) value.items) c.self.view_is

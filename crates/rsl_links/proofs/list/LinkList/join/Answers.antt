@@ -1,4 +1,5 @@
 use Rattle.std.proofs.Common.{length, not, ap, sym, ◌∙◌, arith}
+use Rattle.rsl_links.specs.declared.order.OrderKind.TheVariants.{Bundles}
 use Rattle.rsl_links.specs.Changed.{joined_link}
 use Rattle.rsl_links.specs.First.{change_at}
 use Rattle.rsl_links.specs.LinkList.{RoomyList}
@@ -7,7 +8,7 @@ use Rattle.std.proofs.lemmas.List.{get_or_default}
 use Rattle.rsl_links.specs.Order.{no_link}
 use Rattle.rsl_links.proofs.Found.{joined_none, joined_same}
 use Rattle.rsl_links.proofs.Ranking.{ranked_changed}
-use Rattle.rsl_links.proofs.Ordered.{joined_reserved, joined_bound, joined_sessions}
+use Rattle.rsl_links.proofs.Ordered.{joined_reserved, joined_bound, joined_sessions, joined_stations}
 use Rattle.rsl_links.proofs.Slotted.{long_links}
 use Rattle.rsl_links.proofs.list.LinkList.join.Goals.{else-is_some-via-then-is_some+else-is_none, else-is_some-via-else-is_some}
 use Rattle.rsl_links.proofs.list.LinkList.join.Goals as goal
@@ -20,7 +21,7 @@ link-requires-clause-within c =
 
 pub enter-requires-clause-order : goal.enter-requires-clause-order
 enter-requires-clause-order c =
-    ranked_changed c.withdraw.new.self.kind (joined_link c.args.bundle) c.args.at c.self.inside.slots c.join.new.self c.withdraw.new.self.slots.items c.join.ensures c.withdraw.ensures.order
+    ranked_changed Bundles (joined_link c.args.bundle) c.args.at c.self.inside.slots c.join.new.self c.withdraw.new.self.slots.items c.join.ensures c.withdraw.ensures.order
 
 pub invariant_of-self : goal.invariant_of-self
 invariant_of-self c =
@@ -29,23 +30,19 @@ invariant_of-self c =
     let capacity = c.join.ensures.room in
     record {
       kept = c.join.ensures.kept;
-      kinds = record {
-        reserved = c.self.invariant.kinds.reserved;
-        bound = c.self.invariant.kinds.bound;
-        sessions = c.self.invariant.kinds.sessions;
-        bundles = c.enter.ensures.kind ∙ c.withdraw.ensures.kind ∙ c.self.invariant.kinds.bundles;
-      };
       orders = record {
-        reserved = joined_reserved c.args.bundle c.args.at inside.slots c.join.new.self inside.orders.reserved c.self.invariant.kinds.reserved (omega (arith, few, c.requires)) c.join.ensures c.self.invariant.orders.reserved;
-        bound = joined_bound c.args.bundle c.args.at inside.slots c.join.new.self inside.orders.bound c.self.invariant.kinds.bound (omega (arith, few, c.requires)) c.join.ensures c.self.invariant.orders.bound;
-        sessions = joined_sessions c.args.bundle c.args.at inside.slots c.join.new.self inside.orders.sessions c.self.invariant.kinds.sessions (omega (arith, few, c.requires)) c.join.ensures c.self.invariant.orders.sessions;
+        reserved = joined_reserved c.args.bundle c.args.at inside.slots c.join.new.self inside.orders.reserved (omega (arith, few, c.requires)) c.join.ensures c.self.invariant.orders.reserved;
+        bound = joined_bound c.args.bundle c.args.at inside.slots c.join.new.self inside.orders.bound (omega (arith, few, c.requires)) c.join.ensures c.self.invariant.orders.bound;
+        sessions = joined_sessions c.args.bundle c.args.at inside.slots c.join.new.self inside.orders.sessions (omega (arith, few, c.requires)) c.join.ensures c.self.invariant.orders.sessions;
         bundles = c.enter.ensures.order;
+        stations = joined_stations c.args.bundle c.args.at inside.slots c.join.new.self inside.orders.stations (omega (arith, few, c.requires)) c.join.ensures c.self.invariant.orders.stations;
       };
       room = record {
         reserved = let room = c.self.invariant.room.reserved in omega (arith, room, capacity);
         bound = let room = c.self.invariant.room.bound in omega (arith, room, capacity);
         sessions = let room = c.self.invariant.room.sessions in omega (arith, room, capacity);
         bundles = let one = c.withdraw.ensures.room in let two = c.enter.ensures.room in let room = c.self.invariant.room.bundles in omega (arith, one, two, room, capacity);
+        stations = let room = c.self.invariant.room.stations in omega (arith, room, capacity);
       };
     }
 

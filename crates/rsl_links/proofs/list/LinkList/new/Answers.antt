@@ -8,7 +8,6 @@ invariant_of-result c =
     let slots = c.in_ok-new.ensures in
     record {
       kept = slots.kept;
-      kinds = c.in_ok-new-2.ensures.kinds;
       orders = no_orders c.in_ok-new.field-0 c.in_ok-new-2.field-0 (ap (λ (opened : List ℕ). links_in c.in_ok-new.field-0.slots.items opened) slots.none) c.in_ok-new-2.ensures.empty;
       room = roomy_for c.args.room _ c.in_ok-new-2.field-0 (let one = slots.room in omega (arith, one)) c.in_ok-new-2.ensures.room;
     }

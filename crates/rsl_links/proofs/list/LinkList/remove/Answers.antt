@@ -19,7 +19,6 @@ invariant_of-self c =
     let long = long_links slots c.self.invariant.kept in
     record {
       kept = c.remove.ensures.kept;
-      kinds = c.withdraw.ensures.kinds c.self.invariant.kinds;
       orders = orders_closed c.args.at slots c.remove.new.self c.withdraw.new.self c.self.invariant.kept (omega (arith, few, long, c.requires)) c.remove.ensures c.withdraw.ensures.orders;
       room = let one = c.remove.ensures.room in roomy_for (vec_capacity slots.slots) _ c.withdraw.new.self (omega (arith, one)) (c.withdraw.ensures.room (vec_capacity slots.slots) c.self.invariant.room);
     }

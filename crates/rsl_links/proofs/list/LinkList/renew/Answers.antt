@@ -1,9 +1,10 @@
 use Rattle.std.proofs.Common.{length, ap, ◌∙◌, arith}
+use Rattle.rsl_links.specs.declared.order.OrderKind.TheVariants.{Reserved, Bound}
 use Rattle.rsl_links.specs.Changed.{renewed_link}
 use Rattle.rsl_links.specs.First.{change_at}
 use Rattle.rsl_links.specs.LinkList.{RoomyList}
 use Rattle.rsl_links.proofs.Ranking.{ranked_changed}
-use Rattle.rsl_links.proofs.Ordered.{renewed_sessions, renewed_bundles}
+use Rattle.rsl_links.proofs.Ordered.{renewed_sessions, renewed_bundles, renewed_stations}
 use Rattle.rsl_links.proofs.Slotted.{long_links}
 use Rattle.rsl_links.proofs.list.LinkList.renew.Goals as goal
 
@@ -15,11 +16,11 @@ withdraw-requires-clause-within c =
 
 pub enter-requires-clause-order : goal.enter-requires-clause-order
 enter-requires-clause-order c =
-    ranked_changed c.withdraw.new.self.kind (renewed_link c.args.now) c.args.at c.self.inside.slots c.renew.new.self c.withdraw.new.self.slots.items c.renew.ensures c.withdraw.ensures.order
+    ranked_changed Reserved (renewed_link c.args.now) c.args.at c.self.inside.slots c.renew.new.self c.withdraw.new.self.slots.items c.renew.ensures c.withdraw.ensures.order
 
 pub enter-requires-2-clause-order : goal.enter-requires-2-clause-order
 enter-requires-2-clause-order c =
-    ranked_changed c.withdraw-2.new.self.kind (renewed_link c.args.now) c.args.at c.self.inside.slots c.renew.new.self c.withdraw-2.new.self.slots.items c.renew.ensures c.withdraw-2.ensures.order
+    ranked_changed Bound (renewed_link c.args.now) c.args.at c.self.inside.slots c.renew.new.self c.withdraw-2.new.self.slots.items c.renew.ensures c.withdraw-2.ensures.order
 
 pub invariant_of-self : goal.invariant_of-self
 invariant_of-self c =
@@ -28,23 +29,19 @@ invariant_of-self c =
     let capacity = c.renew.ensures.room in
     record {
       kept = c.renew.ensures.kept;
-      kinds = record {
-        reserved = c.enter.ensures.kind ∙ c.withdraw.ensures.kind ∙ c.self.invariant.kinds.reserved;
-        bound = c.enter-2.ensures.kind ∙ c.withdraw-2.ensures.kind ∙ c.self.invariant.kinds.bound;
-        sessions = c.self.invariant.kinds.sessions;
-        bundles = c.self.invariant.kinds.bundles;
-      };
       orders = record {
         reserved = c.enter.ensures.order;
         bound = c.enter-2.ensures.order;
-        sessions = renewed_sessions c.args.now c.args.at inside.slots c.renew.new.self inside.orders.sessions c.self.invariant.kinds.sessions (omega (arith, few, c.requires)) c.renew.ensures c.self.invariant.orders.sessions;
-        bundles = renewed_bundles c.args.now c.args.at inside.slots c.renew.new.self inside.orders.bundles c.self.invariant.kinds.bundles (omega (arith, few, c.requires)) c.renew.ensures c.self.invariant.orders.bundles;
+        sessions = renewed_sessions c.args.now c.args.at inside.slots c.renew.new.self inside.orders.sessions (omega (arith, few, c.requires)) c.renew.ensures c.self.invariant.orders.sessions;
+        bundles = renewed_bundles c.args.now c.args.at inside.slots c.renew.new.self inside.orders.bundles (omega (arith, few, c.requires)) c.renew.ensures c.self.invariant.orders.bundles;
+        stations = renewed_stations c.args.now c.args.at inside.slots c.renew.new.self inside.orders.stations (omega (arith, few, c.requires)) c.renew.ensures c.self.invariant.orders.stations;
       };
       room = record {
         reserved = let one = c.withdraw.ensures.room in let two = c.enter.ensures.room in let room = c.self.invariant.room.reserved in omega (arith, one, two, room, capacity);
         bound = let one = c.withdraw-2.ensures.room in let two = c.enter-2.ensures.room in let room = c.self.invariant.room.bound in omega (arith, one, two, room, capacity);
         sessions = let room = c.self.invariant.room.sessions in omega (arith, room, capacity);
         bundles = let room = c.self.invariant.room.bundles in omega (arith, room, capacity);
+        stations = let room = c.self.invariant.room.stations in omega (arith, room, capacity);
       };
     }
 

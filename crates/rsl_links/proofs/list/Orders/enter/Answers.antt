@@ -1,14 +1,5 @@
-use Rattle.std.proofs.Common.{◌∙◌, arith}
+use Rattle.std.proofs.Common.{arith}
 use Rattle.rsl_links.proofs.list.Orders.enter.Goals as goal
-
-pub returns-clause-kinds : goal.returns-clause-kinds
-returns-clause-kinds c =
-    λ kinds. record {
-      reserved = c.enter.ensures.kind ∙ kinds.reserved;
-      bound = c.enter-2.ensures.kind ∙ kinds.bound;
-      sessions = c.enter-3.ensures.kind ∙ kinds.sessions;
-      bundles = c.enter-4.ensures.kind ∙ kinds.bundles;
-    }
 
 pub returns-clause-room : goal.returns-clause-room
 returns-clause-room c =
@@ -17,4 +8,5 @@ returns-clause-room c =
       bound = let one = c.enter-2.ensures.room in let room = roomy.bound in omega (arith, one, room);
       sessions = let one = c.enter-3.ensures.room in let room = roomy.sessions in omega (arith, one, room);
       bundles = let one = c.enter-4.ensures.room in let room = roomy.bundles in omega (arith, one, room);
+      stations = let one = c.enter-5.ensures.room in let room = roomy.stations in omega (arith, one, room);
     }

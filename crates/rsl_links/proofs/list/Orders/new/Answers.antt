@@ -1,14 +1,5 @@
 use Rattle.rsl_links.proofs.list.Orders.new.Goals as goal
 
-pub returns-clause-kinds : goal.returns-clause-kinds
-returns-clause-kinds c =
-    record {
-      reserved = c.in_ok-new.ensures.kind;
-      bound = c.in_ok-new-2.ensures.kind;
-      sessions = c.in_ok-new-3.ensures.kind;
-      bundles = c.in_ok-new-4.ensures.kind;
-    }
-
 pub returns-clause-empty : goal.returns-clause-empty
 returns-clause-empty c =
     record {
@@ -16,6 +7,7 @@ returns-clause-empty c =
       bound = c.in_ok-new-2.ensures.empty;
       sessions = c.in_ok-new-3.ensures.empty;
       bundles = c.in_ok-new-4.ensures.empty;
+      stations = c.in_ok-new-5.ensures.empty;
     }
 
 pub returns-clause-room : goal.returns-clause-room
@@ -25,4 +17,5 @@ returns-clause-room c =
       bound = c.in_ok-new-2.ensures.room;
       sessions = c.in_ok-new-3.ensures.room;
       bundles = c.in_ok-new-4.ensures.room;
+      stations = c.in_ok-new-5.ensures.room;
     }

@@ -19,7 +19,7 @@ index-requires c =
     let less = c.loop-low-test.true in
     let top = c.loop-low.invariant.inside in
     let all : vec_len c.args.slots.now.slots ≡ length c.args.slots.now.slots.items = search rules in
-    let low = listed_within c.args.self.now.kind c.args.slots.now.slots.items c.args.self.now.slots.items c.requires middle c.index-slot.result.now (omega (arith, less, top)) c.index-slot.ensures in
+    let low = listed_within c.args.kind c.args.slots.now.slots.items c.args.self.now.slots.items c.requires middle c.index-slot.result.now (omega (arith, less, top)) c.index-slot.ensures in
     omega (arith, all, low)
 
 pub loop-low-preserved-then-is_before : goal.loop-low-preserved-then-is_before
@@ -29,11 +29,11 @@ loop-low-preserved-then-is_before c =
     let less = c.loop-low-test.true in
     let top = so_far.inside in
     let within : middle < length c.args.self.now.slots.items = omega (arith, less, top) in
-    let here = listed_entry c.args.self.now.kind c.args.slots.now.slots.items c.args.self.now.slots.items c.requires middle c.index-slot.result.now c.index.result.now within c.index-slot.ensures c.index.ensures in
+    let here = listed_entry c.args.kind c.args.slots.now.slots.items c.args.self.now.slots.items c.requires middle c.index-slot.result.now c.index.result.now within c.index-slot.ensures c.index.ensures in
     record {
       within = omega (arith, less, top);
       inside = so_far.inside;
-      before = low_part c.args.self.now.kind c.args.slots.now.slots.items c.args.self.now.slots.items c.requires (c.args.number ∷ c.args.octets.now, c.args.opened) middle within
+      before = low_part c.args.kind c.args.slots.now.slots.items c.args.self.now.slots.items c.requires (c.args.number ∷ c.args.octets.now, c.args.opened) middle within
           (ap (λ (e : Key). is_before e (c.args.number ∷ c.args.octets.now, c.args.opened)) (sym here) ∙ sym c.is_before.ensures ∙ c.if-is_before.true);
       after = so_far.after;
     }
@@ -45,11 +45,11 @@ loop-low-preserved c =
     let less = c.loop-low-test.true in
     let top = so_far.inside in
     let within : middle < length c.args.self.now.slots.items = omega (arith, less, top) in
-    let here = listed_entry c.args.self.now.kind c.args.slots.now.slots.items c.args.self.now.slots.items c.requires middle c.index-slot.result.now c.index.result.now within c.index-slot.ensures c.index.ensures in
+    let here = listed_entry c.args.kind c.args.slots.now.slots.items c.args.self.now.slots.items c.requires middle c.index-slot.result.now c.index.result.now within c.index-slot.ensures c.index.ensures in
     record {
       within = omega (arith, less, top);
       inside = omega (arith, less, top);
       before = so_far.before;
-      after = high_part c.args.self.now.kind c.args.slots.now.slots.items c.args.self.now.slots.items c.requires (c.args.number ∷ c.args.octets.now, c.args.opened) middle
+      after = high_part c.args.kind c.args.slots.now.slots.items c.args.self.now.slots.items c.requires (c.args.number ∷ c.args.octets.now, c.args.opened) middle
           (ap (λ (e : Key). is_before e (c.args.number ∷ c.args.octets.now, c.args.opened)) (sym here) ∙ sym c.is_before.ensures ∙ c.if-is_before.false);
     }

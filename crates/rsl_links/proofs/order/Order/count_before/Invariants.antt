@@ -8,8 +8,8 @@ invariant-loop-low l =
     record {
       within : l.low ≤ l.high;
       inside : l.high ≤ length l.self.slots.items;
-      before : (k : ℕ) → k < l.low → is_before (slot_key l.self.kind l.slots.slots.items (get_or l.self.slots.items k 0)) (l.number ∷ l.octets, l.opened) ≡ true;
-      after : (k : ℕ) → l.high ≤ k → k < length l.self.slots.items → is_before (slot_key l.self.kind l.slots.slots.items (get_or l.self.slots.items k 0)) (l.number ∷ l.octets, l.opened) ≡ false;
+      before : (k : ℕ) → k < l.low → is_before (slot_key l.kind l.slots.slots.items (get_or l.self.slots.items k 0)) (l.number ∷ l.octets, l.opened) ≡ true;
+      after : (k : ℕ) → l.high ≤ k → k < length l.self.slots.items → is_before (slot_key l.kind l.slots.slots.items (get_or l.self.slots.items k 0)) (l.number ∷ l.octets, l.opened) ≡ false;
     }
 
 abbrev pub decreases-loop-low : goal.decreases-loop-low

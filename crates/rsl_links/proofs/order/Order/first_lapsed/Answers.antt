@@ -18,7 +18,7 @@ index-requires c =
     let long : deque_len c.args.self.now.slots ≡ length order = search rules in
     let one = some_there (deque_len c.args.self.now.slots) c.is_empty.result c.is_empty.ensures c.if-is_empty.false in
     let many : vec_len slots.slots ≡ length slots.slots.items = search rules in
-    let inside = listed_within c.args.self.now.kind slots.slots.items order (searchable c.args.self.now.kind slots.slots.items (opened_of slots) c.requires.kept.sequenced.rising (length (links_of slots)) order c.requires.order)
+    let inside = listed_within c.args.kind slots.slots.items order (searchable c.args.kind slots.slots.items (opened_of slots) c.requires.kept.sequenced.rising (length (links_of slots)) order c.requires.order)
     0 c.index-first.result.now (omega (arith, long, one)) c.index-first.ensures in
     omega (arith, many, inside)
 
@@ -27,7 +27,7 @@ position-requires-clause-stands c =
     let slots = c.args.slots.now in
     let long : deque_len c.args.self.now.slots ≡ length c.args.self.now.slots.items = search rules in
     let one = some_there (deque_len c.args.self.now.slots) c.is_empty.result c.is_empty.ensures c.if-is_empty.false in
-    ranked_stands c.args.self.now.kind slots.slots.items (opened_of slots) c.requires.kept.sequenced.rising (length (links_of slots)) c.args.self.now.slots.items c.requires.order 0 c.index-first.result.now (omega (arith, long, one)) c.index-first.ensures
+    ranked_stands c.args.kind slots.slots.items (opened_of slots) c.requires.kept.sequenced.rising (length (links_of slots)) c.args.self.now.slots.items c.requires.order 0 c.index-first.result.now (omega (arith, long, one)) c.index-first.ensures
 
 pub returns-then-lapses-clause-within : goal.returns-then-lapses-clause-within
 returns-then-lapses-clause-within c =
@@ -44,9 +44,9 @@ returns-then-lapses-clause-found c =
     let some : 0 < length order = omega (arith, long, one) in
     let few = long_opened slots.slots.items slots.sequence.items slots.count c.requires.kept.sequenced in
     let low = c.position.ensures.within in
-    let here = ranked_found c.args.self.now.kind slots.slots.items (opened_of slots) c.requires.kept.sequenced.rising (length (links_of slots)) order c.requires.order 0 c.index-first.result.now c.position.result some c.index-first.ensures
+    let here = ranked_found c.args.kind slots.slots.items (opened_of slots) c.requires.kept.sequenced.rising (length (links_of slots)) order c.requires.order 0 c.index-first.result.now c.position.result some c.index-first.ensures
     (omega (arith, few, low)) c.position.ensures.stands in
-    let link = ranked_link c.args.self.now.kind slots.slots.items (opened_of slots) c.requires.kept.sequenced.rising (length (links_of slots)) order c.requires.order 0 c.index-first.result.now c.index.result.now some c.index-first.ensures c.index.ensures in
+    let link = ranked_link c.args.kind slots.slots.items (opened_of slots) c.requires.kept.sequenced.rising (length (links_of slots)) order c.requires.order 0 c.index-first.result.now c.index.result.now some c.index-first.ensures c.index.ensures in
     ap (λ (one : Link). lapses_at c.args.rules.now c.args.now (link_seen c.args.servers.now one)) (ap (link_at (links_of slots)) here ∙ sym link) ∙ sym c.lapses.ensures ∙ c.if-lapses.true
 
 pub returns-else-lapses-clause-missed : goal.returns-else-lapses-clause-missed
@@ -56,7 +56,7 @@ returns-else-lapses-clause-missed c =
     let long : deque_len c.args.self.now.slots ≡ length order = search rules in
     let one = some_there (deque_len c.args.self.now.slots) c.is_empty.result c.is_empty.ensures c.if-is_empty.false in
     let some : 0 < length order = omega (arith, long, one) in
-    let same = long_ranked c.args.self.now.kind (links_of slots) (opened_of slots) (length (links_of slots)) order c.requires.order in
-    let link = ranked_link c.args.self.now.kind slots.slots.items (opened_of slots) c.requires.kept.sequenced.rising (length (links_of slots)) order c.requires.order 0 c.index-first.result.now c.index.result.now some c.index-first.ensures c.index.ensures in
-    none_lapses c.args.servers.now c.args.rules.now c.args.now c.args.self.now.kind c.requires.touch (links_of slots) c.requires.order.positions c.requires.order.in_order (omega (arith, some, same))
+    let same = long_ranked c.args.kind (links_of slots) (opened_of slots) (length (links_of slots)) order c.requires.order in
+    let link = ranked_link c.args.kind slots.slots.items (opened_of slots) c.requires.kept.sequenced.rising (length (links_of slots)) order c.requires.order 0 c.index-first.result.now c.index.result.now some c.index-first.ensures c.index.ensures in
+    none_lapses c.args.servers.now c.args.rules.now c.args.now c.args.kind c.requires.touch (links_of slots) c.requires.order.positions c.requires.order.in_order (omega (arith, some, same))
     (ap (λ (one : Link). lapses_at c.args.rules.now c.args.now (link_seen c.args.servers.now one)) (sym link) ∙ sym c.lapses.ensures ∙ c.if-lapses.false)

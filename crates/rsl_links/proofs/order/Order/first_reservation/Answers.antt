@@ -2,7 +2,6 @@ use Rattle.std.proofs.Common.{◌≡◌, ℕ, ◌+◌, ◌<◌, get_or, length, 
 use Rattle.std.specs.Vec.{vec_len}
 use Rattle.std.proofs.lemmas.Bool.{false≢true}
 use Rattle.std.proofs.lemmas.List.{get_or_default}
-use Rattle.rsl_links.specs.declared.order.OrderKind.{OrderKind}
 use Rattle.rsl_links.specs.declared.order.OrderKind.TheVariants.{Reserved}
 use Rattle.rsl_links.specs.declared.slots.Slot.{Slot}
 use Rattle.rsl_links.specs.LinkList.{is_for}
@@ -25,8 +24,8 @@ index-one-requires c =
     let long : c.len-rank-end.result ≡ length order = search rules in
     let many : vec_len slots.slots ≡ length slots.slots.items = search rules in
     let less = c.loop-rank-test.true in
-    let low = listed_within c.args.self.now.kind slots.slots.items order
-    (searchable c.args.self.now.kind slots.slots.items (opened_of slots) c.requires.kept.sequenced.rising (length (links_of slots)) order c.requires.order)
+    let low = listed_within Reserved slots.slots.items order
+    (searchable Reserved slots.slots.items (opened_of slots) c.requires.kept.sequenced.rising (length (links_of slots)) order c.requires.order)
     c.loop-rank.rank c.index-slot.result.now (omega (arith, long, less)) c.index-slot.ensures in
     omega (arith, many, low)
 
@@ -42,7 +41,7 @@ loop-rank-preserved c =
     let within : rank < length order = omega (arith, long, less) in
     let stands : slot ≡ get_or order rank 0 = listed_here order rank slot within c.index-slot.ensures in
     let low : slot < length slots =
-    listed_within c.args.self.now.kind slots order (searchable c.args.self.now.kind slots (opened_of all) c.requires.kept.sequenced.rising (length (links_of all)) order c.requires.order) rank slot within c.index-slot.ensures in
+    listed_within Reserved slots order (searchable Reserved slots (opened_of all) c.requires.kept.sequenced.rising (length (links_of all)) order c.requires.order) rank slot within c.index-slot.ensures in
     let one : c.index-one.result.now ≡ get_or slots slot no_slot = c.index-one.ensures ∙ get_or_default slots slot c.index-one.result.now no_slot low in
     let same : c.index-one.result.now.opened ≡ opened_in slots slot = ap (λ (s : Slot). s.opened) one in
     elim c.if-one-opened.branch [
@@ -65,8 +64,7 @@ position-requires-clause-stands c =
     let order = c.args.self.now.slots.items in
     let opened = opened_of slots in
     let rising = c.requires.kept.sequenced.rising in
-    let ranked : IsRankedIn Reserved (links_of slots) opened (length (links_of slots)) order =
-    subst (λ (kind : OrderKind). IsRankedIn kind (links_of slots) opened (length (links_of slots)) order) c.requires.kind c.requires.order in
+    let ranked : IsRankedIn Reserved (links_of slots) opened (length (links_of slots)) order = c.requires.order in
     let long : c.len-rank-end.result ≡ length order = search rules in
     let past = c.loop-rank-test.false in
     let most = c.loop-rank.auto.rank-end in
@@ -81,8 +79,7 @@ returns-then-opened-lt18446744073709551615-clause-found c =
     let order = c.args.self.now.slots.items in
     let opened = opened_of slots in
     let rising = c.requires.kept.sequenced.rising in
-    let ranked : IsRankedIn Reserved (links_of slots) opened (length (links_of slots)) order =
-    subst (λ (kind : OrderKind). IsRankedIn kind (links_of slots) opened (length (links_of slots)) order) c.requires.kind c.requires.order in
+    let ranked : IsRankedIn Reserved (links_of slots) opened (length (links_of slots)) order = c.requires.order in
     let long : c.len-rank-end.result ≡ length order = search rules in
     let past = c.loop-rank-test.false in
     let most = c.loop-rank.auto.rank-end in
@@ -100,8 +97,7 @@ returns-else-opened-lt18446744073709551615-clause-missed c =
     let order = c.args.self.now.slots.items in
     let opened = opened_of slots in
     let rising = c.requires.kept.sequenced.rising in
-    let ranked : IsRankedIn Reserved (links_of slots) opened (length (links_of slots)) order =
-    subst (λ (kind : OrderKind). IsRankedIn kind (links_of slots) opened (length (links_of slots)) order) c.requires.kind c.requires.order in
+    let ranked : IsRankedIn Reserved (links_of slots) opened (length (links_of slots)) order = c.requires.order in
     let long : c.len-rank-end.result ≡ length order = search rules in
     let past = c.loop-rank-test.false in
     let most = c.loop-rank.auto.rank-end in

@@ -15,7 +15,7 @@ some_is taken x P is then = subst (λ (one : Option ℕ). OnSome one P) is then
 
 pub rank_of-rank-requires-clause-kind : goal.rank_of-rank-requires-clause-kind
 rank_of-rank-requires-clause-kind c =
-    sym (ap (λ (one : Link). is_of c.args.self.now.kind one) c.link.ensures) ∙ sym c.holds.ensures ∙ c.if-holds.true
+    sym (ap (λ (one : Link). is_of c.args.kind one) c.link.ensures) ∙ sym c.holds.ensures ∙ c.if-holds.true
 
 pub returns-then-holds-clause-order : goal.returns-then-holds-clause-order
 returns-then-holds-clause-order c =
@@ -24,11 +24,11 @@ returns-then-holds-clause-order c =
     let inside = c.rank_of-rank.ensures.within in
     let removed = some_is c.remove.result _ _ (c.remove.ensures.succeeds 0 (omega (arith, long, inside))) c.remove.ensures.items in
     let most = long_opened slots.slots.items slots.sequence.items slots.count c.requires.kept.sequenced in
-    subst (λ (order : List ℕ). AreRankedBut c.args.self.now.kind c.args.slots.now c.args.at order) (sym removed)
-    (ranked_withdrawn c.args.self.now.kind slots.slots.items (opened_of slots) c.requires.kept.sequenced.rising c.args.self.now.slots.items c.args.at (omega (arith, most, c.requires.within)) c.requires.order
+    subst (λ (order : List ℕ). AreRankedBut c.args.kind c.args.slots.now c.args.at order) (sym removed)
+    (ranked_withdrawn c.args.kind slots.slots.items (opened_of slots) c.requires.kept.sequenced.rising c.args.self.now.slots.items c.args.at (omega (arith, most, c.requires.within)) c.requires.order
     c.rank_of-rank.result c.rank_of-rank.ensures.within c.rank_of-rank.ensures.stands)
 
 pub returns-else-holds-clause-order : goal.returns-else-holds-clause-order
 returns-else-holds-clause-order c =
-    ranked_not_there c.args.self.now.kind (links_of c.args.slots.now) (opened_of c.args.slots.now) c.args.self.now.slots.items c.args.at c.requires.order
-    (sym (ap (λ (one : Link). is_of c.args.self.now.kind one) c.link.ensures) ∙ sym c.holds.ensures ∙ c.if-holds.false)
+    ranked_not_there c.args.kind (links_of c.args.slots.now) (opened_of c.args.slots.now) c.args.self.now.slots.items c.args.at c.requires.order
+    (sym (ap (λ (one : Link). is_of c.args.kind one) c.link.ensures) ∙ sym c.holds.ensures ∙ c.if-holds.false)

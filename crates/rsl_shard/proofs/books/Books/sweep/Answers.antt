@@ -9,6 +9,6 @@ pub returns-clause-books : goal.returns-clause-books
 returns-clause-books c =
     written c.sweep_each.new.books c.self.inside.list.items c.self.inside.list.len (c.sweep_each.ensures.len ∙ ap length c.deref_mut.ensures.value) (search rules)
     ∙ c.sweep_each.ensures.books
-    ∙ ap (map (step_by (Some (record { moment = c.args.moment; act = Sweep c.args.nas.now })))) c.deref_mut.ensures.value
-    ∙ sym (moved_each c.self.inside.shard c.self.inside.shards (moves.Sweep c.args.moment c.args.nas.now) (record { moment = c.args.moment; act = Sweep c.args.nas.now }) c.self.inside.list.items (λ (account : ℕ). refl))
-    ∙ ap (λ (seen : BooksSeen). books_after seen.setup seen.books (moves.Sweep c.args.moment c.args.nas.now)) c.self.view_is
+    ∙ ap (map (step_by (Some (record { moment = c.args.moment; act = Sweep c.args.nas.now c.args.delay })))) c.deref_mut.ensures.value
+    ∙ sym (moved_each c.self.inside.shard c.self.inside.shards (moves.Sweep c.args.moment c.args.nas.now c.args.delay) (record { moment = c.args.moment; act = Sweep c.args.nas.now c.args.delay }) c.self.inside.list.items (λ (account : ℕ). refl))
+    ∙ ap (λ (seen : BooksSeen). books_after seen.setup seen.books (moves.Sweep c.args.moment c.args.nas.now c.args.delay)) c.self.view_is
