@@ -61,7 +61,7 @@ from served import HOST, access_request, attribute
 
 with socket.socket(socket.AF_INET, socket.SOCK_DGRAM) as one:
     one.bind((HOST, int(sys.argv[2])))
-    one.settimeout(3)
+    one.settimeout(20)
     names = attribute(1, b"nemo") + attribute(32, b"pop1")
     one.sendto(access_request(1, b"testing-on-this-machine", names, bytes(range(16)), b"arctangent", True), (HOST, int(sys.argv[1])))
     print(one.recv(4096).hex())

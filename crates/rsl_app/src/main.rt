@@ -21,7 +21,9 @@ use std::process::ExitCode;
 
 fn main(rt: HostRuntime) -> ExitCode {
     let outcome = if ask_to_serve(&rt) {
-        serve(&rt, &mut rt.stdout()).map_err(Fault::from)
+        serve(&rt, &mut rt.stdout())
+            .map(|_closed| ())
+            .map_err(Fault::from)
     } else {
         command(rt.alloc(), &rt, &mut rt.stdin(), &mut rt.stdout())
     };

@@ -10,11 +10,11 @@ use Rattle.rsl_wire.specs.Packet.{packet_octets}
 use Rattle.rsl_event.specs.Answer.{number_attribute}
 use Rattle.rsl_event.specs.Status.{status_number}
 use Rattle.rsl_event.specs.declared.status.Status.{Status}
-use Rattle.rsl_event.specs.declared.codes.TheConstants.{ACCOUNTING_REQUEST, USER_NAME, NAS_IDENTIFIER, ACCT_STATUS_TYPE, ACCT_SESSION_ID, ACCT_MULTI_SESSION_ID}
+use Rattle.rsl_event.specs.declared.codes.TheConstants.{ACCOUNTING_REQUEST, USER_NAME, CALLING_STATION_ID, NAS_IDENTIFIER, ACCT_STATUS_TYPE, ACCT_SESSION_ID, ACCT_MULTI_SESSION_ID}
 use Rattle.rsl_script.specs.declared.request.AccountingRequest.{AccountingRequest}
 use Rattle.rsl_script.specs.declared.request.AccountingRequest.TheVariants.{Session, Server}
 use Rattle.rsl_replay.specs.Attributes.{text_attribute}
-use Rattle.rsl_replay.specs.Accounting.{class_attributes, accounting_attributes, accounting_octets}
+use Rattle.rsl_replay.specs.Accounting.{class_attributes, delay_attributes, accounting_attributes, accounting_octets}
 
 -- a draft with other attributes
 abbrev pub with_attributes : Begun → List ℕ → Begun
@@ -44,37 +44,47 @@ server_written status name start a b empty ea eb =
     λ k. record { id = id_is k; attributes = b_is k }
 
 -- the parts of a report on an access server, and of one on a session, written one after another
-pub server_request_written : (boot : ℕ) (status : Status) (name : Option (List ℕ)) (start a b : Begun) → start.attributes ≡ []
+pub server_request_written : (boot : ℕ) (status : Status) (name : Option (List ℕ)) (delay : Option ℕ) (start a b c : Begun) → start.attributes ≡ []
     → a ≡ with_attributes start (start.attributes ++ attribute_octets (number_attribute ACCT_STATUS_TYPE (status_number status)))
     → b ≡ with_attributes a (a.attributes ++ list_octets (text_attribute NAS_IDENTIFIER name))
-    → b ≡ with_attributes start (list_octets (accounting_attributes boot (Server status name)))
+    → c ≡ with_attributes b (b.attributes ++ list_octets (delay_attributes delay))
+    → c ≡ with_attributes start (list_octets (accounting_attributes boot (Server status name delay)))
 unfolding accounting_attributes
-server_request_written boot status name start a b empty ea eb = server_written status name start a b empty ea eb
+server_request_written boot status name delay start a b c empty ea eb ec =
+    let first = number_attribute ACCT_STATUS_TYPE (status_number status) in
+    let b_is = server_written status name start a b empty ea eb in
+    let c_is : c.attributes ≡ list_octets (first ∷ text_attribute NAS_IDENTIFIER name ++ delay_attributes delay) =
+    ap (λ (x : Begun). x.attributes) ec ∙ then_octets (first ∷ text_attribute NAS_IDENTIFIER name) (delay_attributes delay) b.attributes (ap (λ (x : Begun). x.attributes) b_is) in
+    let id_is : c.id ≡ start.id = ap (λ (x : Begun). x.id) ec ∙ ap (λ (x : Begun). x.id) b_is in
+    λ k. record { id = id_is k; attributes = c_is k }
 
-pub session_request_written : (boot : ℕ) (status : Status) (nas : Option (List ℕ)) (name session given_name given_session : List ℕ) (bundle : Option (List ℕ)) (class : Option ℕ) (start a b c d e f : Begun) → start.attributes ≡ [] → given_name ≡ name → given_session ≡ session
+pub session_request_written : (boot : ℕ) (status : Status) (nas : Option (List ℕ)) (name session given_name given_session : List ℕ) (bundle : Option (List ℕ)) (class : Option ℕ) (station : Option (List ℕ)) (start a b c d e f g : Begun) → start.attributes ≡ [] → given_name ≡ name → given_session ≡ session
     → a ≡ with_attributes start (start.attributes ++ attribute_octets (number_attribute ACCT_STATUS_TYPE (status_number status)))
     → b ≡ with_attributes a (a.attributes ++ list_octets (text_attribute NAS_IDENTIFIER nas))
     → c ≡ with_attributes b (b.attributes ++ attribute_octets (attribute_of USER_NAME given_name))
     → d ≡ with_attributes c (c.attributes ++ attribute_octets (attribute_of ACCT_SESSION_ID given_session))
     → e ≡ with_attributes d (d.attributes ++ list_octets (text_attribute ACCT_MULTI_SESSION_ID bundle))
     → f ≡ with_attributes e (e.attributes ++ list_octets (class_attributes boot class))
-    → f ≡ with_attributes start (list_octets (accounting_attributes boot (Session status nas name session bundle class)))
+    → g ≡ with_attributes f (f.attributes ++ list_octets (text_attribute CALLING_STATION_ID station))
+    → g ≡ with_attributes start (list_octets (accounting_attributes boot (Session status nas name session bundle class station)))
 unfolding accounting_attributes
-session_request_written boot status nas name session given_name given_session bundle class start a b c d e f empty en es ea eb ec ed ee ef =
+session_request_written boot status nas name session given_name given_session bundle class station start a b c d e f g empty en es ea eb ec ed ee ef eg =
     let first = number_attribute ACCT_STATUS_TYPE (status_number status) in
     let server = text_attribute NAS_IDENTIFIER nas in
     let user = attribute_of USER_NAME name in
     let own = attribute_of ACCT_SESSION_ID session in
     let links = text_attribute ACCT_MULTI_SESSION_ID bundle in
     let classes = class_attributes boot class in
+    let device = text_attribute CALLING_STATION_ID station in
     let b_is : b.attributes ≡ list_octets (first ∷ server) = ap (λ (x : Begun). x.attributes) (server_written status nas start a b empty ea eb) in
     let c_is : c.attributes ≡ list_octets (first ∷ server ++ user ∷ []) = ap (λ (x : Begun). x.attributes) ec ∙ ap (λ (x : List ℕ). b.attributes ++ attribute_octets (attribute_of USER_NAME x)) en ∙ then_one (first ∷ server) user b.attributes b_is in
     let d_is : d.attributes ≡ list_octets (first ∷ (server ++ user ∷ []) ++ own ∷ []) = ap (λ (x : Begun). x.attributes) ed ∙ ap (λ (x : List ℕ). c.attributes ++ attribute_octets (attribute_of ACCT_SESSION_ID x)) es ∙ then_one (first ∷ server ++ user ∷ []) own c.attributes c_is in
     let e_is : e.attributes ≡ list_octets (first ∷ ((server ++ user ∷ []) ++ own ∷ []) ++ links) = ap (λ (x : Begun). x.attributes) ee ∙ then_octets (first ∷ (server ++ user ∷ []) ++ own ∷ []) links d.attributes d_is in
     let f_is : f.attributes ≡ list_octets (first ∷ (((server ++ user ∷ []) ++ own ∷ []) ++ links) ++ classes) = ap (λ (x : Begun). x.attributes) ef ∙ then_octets (first ∷ ((server ++ user ∷ []) ++ own ∷ []) ++ links) classes e.attributes e_is in
-    let joined : (((server ++ user ∷ []) ++ own ∷ []) ++ links) ++ classes ≡ server ++ user ∷ own ∷ links ++ classes = grind (arith, append_assoc) in
-    let id_is : f.id ≡ start.id = ap (λ (x : Begun). x.id) ef ∙ ap (λ (x : Begun). x.id) ee ∙ ap (λ (x : Begun). x.id) ed ∙ ap (λ (x : Begun). x.id) ec ∙ ap (λ (x : Begun). x.id) eb ∙ ap (λ (x : Begun). x.id) ea in
-    let all_are : f.attributes ≡ list_octets (first ∷ server ++ user ∷ own ∷ links ++ classes) = f_is ∙ ap (λ (x : List Attribute). list_octets (first ∷ x)) joined in
+    let g_is : g.attributes ≡ list_octets (first ∷ ((((server ++ user ∷ []) ++ own ∷ []) ++ links) ++ classes) ++ device) = ap (λ (x : Begun). x.attributes) eg ∙ then_octets (first ∷ (((server ++ user ∷ []) ++ own ∷ []) ++ links) ++ classes) device f.attributes f_is in
+    let joined : ((((server ++ user ∷ []) ++ own ∷ []) ++ links) ++ classes) ++ device ≡ server ++ user ∷ own ∷ links ++ classes ++ device = grind (arith, append_assoc) in
+    let id_is : g.id ≡ start.id = ap (λ (x : Begun). x.id) eg ∙ ap (λ (x : Begun). x.id) ef ∙ ap (λ (x : Begun). x.id) ee ∙ ap (λ (x : Begun). x.id) ed ∙ ap (λ (x : Begun). x.id) ec ∙ ap (λ (x : Begun). x.id) eb ∙ ap (λ (x : Begun). x.id) ea in
+    let all_are : g.attributes ≡ list_octets (first ∷ server ++ user ∷ own ∷ links ++ classes ++ device) = g_is ∙ ap (λ (x : List Attribute). list_octets (first ∷ x)) joined in
     λ k. record { id = id_is k; attributes = all_are k }
 
 -- the request, from the drafts before it

@@ -14,23 +14,23 @@ use Rattle.rsl_script.specs.declared.event_line.Happening.TheVariants as happeni
 use Rattle.rsl_script.specs.declared.request.AccountingRequest.{AccountingRequest}
 use Rattle.rsl_script.specs.declared.request.AccountingRequest.TheVariants.{Session, Server}
 use Rattle.rsl_replay.specs.Accounting.{accounting_octets}
-use Rattle.rsl_replay.specs.Steps.{nas_named, sweeps_by, sweeps_before, secret_at, datagram, steps_at, steps_of_line, steps_of_lines, sweep_count, step_count_of, step_count}
+use Rattle.rsl_replay.specs.Steps.{delay_told, nas_named, sweeps_by, sweeps_before, secret_at, datagram, steps_at, steps_of_line, steps_of_lines, sweep_count, step_count_of, step_count}
 use Rattle.rsl_steps.specs.declared.step.Step.{Step}
 use Rattle.rsl_steps.specs.declared.step.Step.TheVariants as steps
 
-length-sweeps_by : (config : Configuration) (moment : ℕ) (status : Status) (name : Option (List ℕ)) (client : Option ℕ)
-    → length (sweeps_by config moment name client) ≡ sweep_count config (Server status name) client
-length-sweeps_by config moment status name None = refl
-length-sweeps_by config moment status name (Some client) = length-map-range_with_len (λ (shard : ℕ). steps.Sweep shard moment (nas_named client name)) 0 config.settings.shards
+length-sweeps_by : (config : Configuration) (moment : ℕ) (status : Status) (name : Option (List ℕ)) (delay client : Option ℕ)
+    → length (sweeps_by config moment name delay client) ≡ sweep_count config (Server status name delay) client
+length-sweeps_by config moment status name delay None = refl
+length-sweeps_by config moment status name delay (Some client) = length-map-range_with_len (λ (shard : ℕ). steps.Sweep shard moment (nas_named client name) (delay_told config delay)) 0 config.settings.shards
 
 length-sweeps_before : (config : Configuration) (moment : ℕ) (address : List ℕ) (request : AccountingRequest)
     → length (sweeps_before config moment address request) ≡ sweep_count config request (client_number config address)
-length-sweeps_before config moment address (Session status nas name session bundle class) = none (client_number config address)
+length-sweeps_before config moment address (Session status nas name session bundle class station) = none (client_number config address)
   where
-    none : (client : Option ℕ) → 0 ≡ sweep_count config (Session status nas name session bundle class) client
+    none : (client : Option ℕ) → 0 ≡ sweep_count config (Session status nas name session bundle class station) client
     none None = refl
     none (Some client) = refl
-length-sweeps_before config moment address (Server status nas) = length-sweeps_by config moment status nas (client_number config address)
+length-sweeps_before config moment address (Server status nas delay) = length-sweeps_by config moment status nas delay (client_number config address)
 
 length-steps_at : (config : Configuration) (boot moment : ℕ) (happening : Happening) → length (steps_at config boot moment happening) ≡ step_count_of config happening
 length-steps_at config boot moment (Access address request) = refl

@@ -7,7 +7,7 @@ use Rattle.rsl_auth.specs.Chap.{chap_response}
 use Rattle.rsl_auth.specs.Password.{hidden}
 use Rattle.rsl_event.specs.Signature.{signature_attributes, signed_by}
 use Rattle.rsl_event.specs.declared.signing.Signing.{Signing}
-use Rattle.rsl_event.specs.declared.codes.TheConstants.{ACCESS_REQUEST, USER_NAME, USER_PASSWORD, CHAP_PASSWORD, NAS_IDENTIFIER}
+use Rattle.rsl_event.specs.declared.codes.TheConstants.{ACCESS_REQUEST, USER_NAME, USER_PASSWORD, CHAP_PASSWORD, CALLING_STATION_ID, NAS_IDENTIFIER}
 use Rattle.rsl_wire.specs.Attributes.{Attribute, attribute_of, list_octets}
 use Rattle.rsl_wire.specs.Packet.{packet_octets}
 use Rattle.rsl_replay.specs.Attributes.{text_attribute}
@@ -31,6 +31,7 @@ request_attributes request password =
     attribute_of USER_NAME request.name
     ∷ attribute_of (password_kind request.method) password
     ∷ text_attribute NAS_IDENTIFIER request.nas
+    ++ text_attribute CALLING_STATION_ID request.station
 
 -- the octets of the request to a server that shares this secret
 unfoldable pub access_octets : AccessRequest → Signing → (secret : List ℕ) → List ℕ

@@ -1,5 +1,5 @@
 -- The steps of event lines.
-use Rattle.std.specs.Prelude.{ℕ, ◌+◌, List, [], ◌∷◌, ◌++◌, map, codes, Option, Some, None}
+use Rattle.std.specs.Prelude.{ℕ, ◌+◌, if◌then◌else◌, List, [], ◌∷◌, ◌++◌, map, codes, unwrap_or, Option, Some, None}
 use Rattle.std.specs.List.{flat_map, range_with_len}
 use Rattle.rsl_accounts.specs.Configuration.{Configuration, client_number}
 use Rattle.rsl_event.specs.Request.{nas_name_of, secret_of}
@@ -49,25 +49,31 @@ for_each_shard config step = map step (range_with_len 0 config.settings.shards)
 abbrev pub ticks : Configuration → (moment : ℕ) → List Step
 ticks config moment = for_each_shard config (λ shard. steps.Tick shard moment)
 
-abbrev pub sweeps : Configuration → (moment : ℕ) → Nas → List Step
-sweeps config moment nas = for_each_shard config (λ shard. steps.Sweep shard moment nas)
+abbrev pub sweeps : Configuration → (moment : ℕ) → Nas → (delay : ℕ) → List Step
+sweeps config moment nas delay =
+    for_each_shard config (λ shard. steps.Sweep shard moment nas delay)
 
 -- the access server of a client: it has no name if the line has no NAS
 abbrev pub nas_named : (client : ℕ) → (name : Option (List ℕ)) → Nas
 nas_named client name = record { client = client; name = nas_name_of name None }
 
+-- how many seconds ago it restarted: the delay of the line, if the configuration heeds it, else 0
+abbrev pub delay_told : Configuration → (delay : Option ℕ) → ℕ
+delay_told config delay = if config.settings.delay_time then unwrap_or delay 0 else 0
+
 -- the sweeps before an Accounting-Request from an address: none if no client has it
-abbrev pub sweeps_by : Configuration → (moment : ℕ) → (name : Option (List ℕ)) → (client : Option ℕ)
-    → List Step
-sweeps_by config moment name None = []
-sweeps_by config moment name (Some client) = sweeps config moment (nas_named client name)
+abbrev pub sweeps_by : Configuration → (moment : ℕ) → (name : Option (List ℕ)) → (delay : Option ℕ)
+    → (client : Option ℕ) → List Step
+sweeps_by config moment name delay None = []
+sweeps_by config moment name delay (Some client) =
+    sweeps config moment (nas_named client name) (delay_told config delay)
 
 -- only a report on the access server itself has sweeps before it
 abbrev pub sweeps_before : Configuration → (moment : ℕ) → (address : List ℕ) → AccountingRequest
     → List Step
-sweeps_before config moment address (Session status nas name session bundle class) = []
-sweeps_before config moment address (Server status nas) =
-    sweeps_by config moment nas (client_number config address)
+sweeps_before config moment address (Session status nas name session bundle class station) = []
+sweeps_before config moment address (Server status nas delay) =
+    sweeps_by config moment nas delay (client_number config address)
 
 -- what happens at a moment
 abbrev pub steps_at : Configuration → (boot moment : ℕ) → Happening → List Step
@@ -89,7 +95,7 @@ steps_of_lines config boot lines = flat_map (steps_of_line config boot) lines
 
 -- the number of steps of a line
 abbrev pub sweep_count : Configuration → AccountingRequest → (client : Option ℕ) → ℕ
-sweep_count config (Server status nas) (Some client) = config.settings.shards
+sweep_count config (Server status nas delay) (Some client) = config.settings.shards
 sweep_count config _ _ = 0
 
 abbrev pub step_count_of : Configuration → Happening → ℕ

@@ -16,7 +16,9 @@ use crate::accounting::{push_text, push_value};
 use md5::{Digest, Md5};
 use rsl_auth::{CHAP_PASSWORD_LEN, HmacKey, chap_response, hide};
 use rsl_event::Signing;
-use rsl_event::codes::{ACCESS_REQUEST, CHAP_PASSWORD, NAS_IDENTIFIER, USER_NAME, USER_PASSWORD};
+use rsl_event::codes::{
+    ACCESS_REQUEST, CALLING_STATION_ID, CHAP_PASSWORD, NAS_IDENTIFIER, USER_NAME, USER_PASSWORD,
+};
 use rsl_script::{AccessRequest, Method};
 use rsl_wire::{Draft, NoMemory};
 use std::alloc::Global;
@@ -106,6 +108,7 @@ fn push_request(draft: &mut Draft, request: &AccessRequest, value: &[u8])
     push_value(draft, USER_NAME, request.name.as_slice());
     push_value(draft, password_kind(request.method), value);
     push_text(draft, NAS_IDENTIFIER, &request.nas);
+    push_text(draft, CALLING_STATION_ID, &request.station);
 }
 
 /// The Type of the password attribute.

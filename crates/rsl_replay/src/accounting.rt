@@ -6,14 +6,15 @@ ghost use Rattle.rsl_event.specs.Status.{status_number};
 ghost use Rattle.rsl_replay.specs.Attributes.{text_attribute};
 ghost use Rattle.rsl_replay.specs.Accounting.{
   class_attributes,
+  delay_attributes,
   accounting_attributes,
   accounting_octets,
 };
 
 use rsl_auth::sealed;
 use rsl_event::codes::{
-    ACCOUNTING_REQUEST, ACCT_MULTI_SESSION_ID, ACCT_SESSION_ID, ACCT_STATUS_TYPE, CLASS,
-    NAS_IDENTIFIER, USER_NAME,
+    ACCOUNTING_REQUEST, ACCT_DELAY_TIME, ACCT_MULTI_SESSION_ID, ACCT_SESSION_ID, ACCT_STATUS_TYPE,
+    CALLING_STATION_ID, CLASS, NAS_IDENTIFIER, USER_NAME,
 };
 use rsl_event::{Status, class_octets};
 use rsl_script::{AccountingRequest, AttributeText};
@@ -55,6 +56,7 @@ fn write_request(draft: &mut Draft, boot: u64, request: &AccountingRequest)
             session,
             bundle,
             class,
+            station,
         } => {
             push_status(draft, *status);
             push_text(draft, NAS_IDENTIFIER, nas);
@@ -62,10 +64,12 @@ fn write_request(draft: &mut Draft, boot: u64, request: &AccountingRequest)
             push_value(draft, ACCT_SESSION_ID, session.as_slice());
             push_text(draft, ACCT_MULTI_SESSION_ID, bundle);
             push_class(draft, boot, *class);
+            push_text(draft, CALLING_STATION_ID, station);
         }
-        AccountingRequest::Server { status, nas } => {
+        AccountingRequest::Server { status, nas, delay } => {
             push_status(draft, *status);
             push_text(draft, NAS_IDENTIFIER, nas);
+            push_delay(draft, *delay);
         }
     }
 }
@@ -114,11 +118,24 @@ pub(crate) fn push_text(draft: &mut Draft, kind: u8, text: &Option<AttributeText
 /// Writes the Class of the server with this boot number, if there is a class number.
 fn push_class(draft: &mut Draft, boot: u64, number: Option<u64>)
     requires { length draft.old.attributes ≤ 2048 }
-    ensures { draft.new ≡ record draft.old {
+    ensures written { draft.new ≡ record draft.old {
       attributes = draft.old.attributes ++ list_octets (class_attributes boot number);
     } }
+    ensures length { length draft.new.attributes ≤ length draft.old.attributes + 18 }
 {
     if let Some(number) = number {
         draft.push(CLASS, &class_octets(boot, number)).unwrap();
+    }
+}
+
+/// Writes the Acct-Delay-Time, if there is a delay, in seconds.
+fn push_delay(draft: &mut Draft, delay: Option<u32>)
+    requires { length draft.old.attributes ≤ 2048 }
+    ensures { draft.new ≡ record draft.old {
+      attributes = draft.old.attributes ++ list_octets (delay_attributes delay);
+    } }
+{
+    if let Some(delay) = delay {
+        draft.push(ACCT_DELAY_TIME, &delay.to_be_bytes()).unwrap();
     }
 }

@@ -6,6 +6,7 @@ ghost use Rattle.rsl_replay.specs.Accounting.{accounting_octets};
 ghost use Rattle.rsl_replay.specs.Steps.{
   step_count_of,
   datagram,
+  delay_told,
   signing_at,
   nas_named,
   secret_at,
@@ -170,13 +171,20 @@ fn push_sweeps_before(
     ensures { OnOk result (steps.new.items ≡
         steps.old.items ++ sweeps_before config.now moment address request.now) }
 {
-    let AccountingRequest::Server { nas, .. } = request else {
+    let AccountingRequest::Server { nas, delay, .. } = request else {
         return Ok(());
     };
     match config.client(address) {
         Some(client) => {
             let nas = nas_named(alloc, client, nas)?;
-            push_sweeps(alloc, config, moment, &nas, steps)
+            push_sweeps(
+                alloc,
+                config,
+                moment,
+                &nas,
+                delay_told(config, *delay),
+                steps,
+            )
         }
         None => Ok(()),
     }
@@ -193,19 +201,37 @@ fn nas_named(alloc: Global, client: u32, name: &Option<AttributeText>) -> Result
     Ok(Nas { client, name })
 }
 
+/// How many seconds ago an access server restarted: the delay of the line, if the configuration
+/// heeds it, else 0.
+fn delay_told(config: &Config, delay: Option<u32>) -> u64
+    ensures { result ≡ delay_told config.now delay }
+{
+    if !config.heeds_delay_time() {
+        return 0;
+    }
+    u64::from(delay.unwrap_or(0))
+}
+
 /// Appends a sweep of the access server for each shard.
 fn push_sweeps(
     alloc: Global,
     config: &Config,
     moment: u64,
     nas: &Nas,
+    delay: u64,
     steps: &mut Vec<Step>,
 ) -> Result<(), NoMemory>
-    ensures { OnOk result (steps.new.items ≡ steps.old.items ++ sweeps config.now moment nas.now) }
+    ensures { OnOk result (steps.new.items ≡
+        steps.old.items ++ sweeps config.now moment nas.now delay) }
 {
     for shard in 0..config.shards() {
         let nas = nas.try_copy(alloc)?;
-        steps.push(Step::Sweep { shard, moment, nas })?;
+        steps.push(Step::Sweep {
+            shard,
+            moment,
+            nas,
+            delay,
+        })?;
     }
     Ok(())
 }

@@ -1,5 +1,5 @@
 -- Requests that are made of the values of their words.
-use Rattle.std.proofs.Common.{◌≡◌, ℕ, ◌+◌, ◌<◌, ◌≤◌, List, [], ◌∷◌, map, ◌-◌, Bor, None, refl, ◌∙◌}
+use Rattle.std.proofs.Common.{ℕ, List, [], map, Bor}
 
 abbrev pub seen : List (Bor (List ℕ)) → List (List ℕ)
 seen words = map (λ word. word.now) words

@@ -1,5 +1,5 @@
 -- The Access-Request of a line `ask` or `chap`: its words after the moment are CLIENT NAS NAME
--- PASSWORD ID.
+-- PASSWORD ID, and then the optional word station=S.
 use Rattle.std.specs.Prelude.{ℕ, List, [], ◌∷◌, codes, Option, None, Some}
 use Rattle.std.specs.List.{join_with_byte}
 use Rattle.rsl_accounts.specs.Address.{address_of}
@@ -9,7 +9,7 @@ use Rattle.rsl_script.specs.declared.request.AccessRequest.{AccessRequest}
 use Rattle.rsl_script.specs.declared.request.Method.{Method}
 use Rattle.rsl_script.specs.declared.request.Method.TheVariants.{Pap, Chap}
 use Rattle.rsl_script.specs.Reads.{◌>>=◌}
-use Rattle.rsl_script.specs.Values.{read_id, read_name, read_nas, read_password}
+use Rattle.rsl_script.specs.Values.{read_id, read_name, read_nas, read_password, read_station}
 
 -- the first word of the line
 abbrev pub method_word : Method → List ℕ
@@ -20,16 +20,24 @@ method_word Chap = codes "chap"
 unfoldable pub text_without_moment : Method → (words : List (List ℕ)) → List ℕ
 text_without_moment method words = join_with_byte 32 (method_word method ∷ words)
 
--- the request of the words NAS NAME PASSWORD ID, on a line with this text
+-- the request of the words NAS NAME PASSWORD ID [station=S], on a line with this text
 unfoldable pub access_request : Method → (text : List ℕ) → (words : List (List ℕ))
     → Option AccessRequest
-access_request method text (nas ∷ name ∷ password ∷ id ∷ []) = do
+access_request method text (nas ∷ name ∷ password ∷ id ∷ rest) = do
   nas ← read_nas nas
   name ← read_name name
   password ← read_password password
   id ← read_id id
-  Some (record
-      { method = method; text = text; nas = nas; name = name; password = password; id = id })
+  station ← read_station rest
+  Some (record {
+    method = method;
+    text = text;
+    nas = nas;
+    name = name;
+    password = password;
+    id = id;
+    station = station;
+  })
 access_request method text _ = None
 
 -- what the words after the moment say

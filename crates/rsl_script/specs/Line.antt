@@ -1,5 +1,5 @@
 -- What a line of a script says.
-use Rattle.std.specs.Prelude.{ℕ, ◌==◌, Bool, true, false, List, [], ◌∷◌, length, codes, bytes_eq, if◌then◌else◌, Option, None, Some, option_map, unwrap_or}
+use Rattle.std.specs.Prelude.{ℕ, true, false, List, [], ◌∷◌, codes, if◌then◌else◌, Option, None, Some, option_map, unwrap_or}
 use Rattle.rsl_accounts.specs.Address.{address_of}
 use Rattle.rsl_accounts.specs.Settings.{rules_of_places}
 use Rattle.rsl_accounts.specs.declared.entry.Entry.{Entry}
@@ -10,7 +10,7 @@ use Rattle.rsl_script.specs.declared.verb.Verb.{Verb}
 use Rattle.rsl_script.specs.declared.verb.Verb.TheVariants.{Set, Client, Account, Event}
 use Rattle.rsl_script.specs.Event.{read_event}
 use Rattle.rsl_script.specs.Reads.{◌>>=◌}
-use Rattle.rsl_script.specs.Values.{leading_number, read_number}
+use Rattle.rsl_script.specs.Values.{leading_number, read_flag, read_number}
 use Rattle.rsl_script.specs.Verb.{setting_of, verb_of}
 use Rattle.rsl_script.specs.Words.{is_printed, is_silent, are_words, line_words}
 
@@ -22,17 +22,11 @@ set_line (name ∷ value ∷ []) = do
   Some (lines.Set setting value)
 set_line _ = None
 
--- whether the client's requests must be signed: no word, or the word `signed`
-unfoldable pub read_signed : (words : List (List ℕ)) → Option Bool
-read_signed [] = Some false
-read_signed (word ∷ []) = if bytes_eq word (codes "signed") then Some true else None
-read_signed _ = None
-
--- a client: ADDRESS SECRET [signed]
+-- a client: ADDRESS SECRET [signed], the last word if its requests must be signed
 unfoldable pub client_line : (words : List (List ℕ)) → Option ScriptLine
 client_line (address ∷ secret ∷ rest) = do
   address ← address_of address
-  signed ← read_signed rest
+  signed ← read_flag (codes "signed") rest
   Some (lines.Client (record {
     address = address;
     secret = secret;
@@ -42,18 +36,18 @@ client_line (address ∷ secret ∷ rest) = do
   }))
 client_line _ = None
 
--- the optional words of an account: [PORTS] [live=N] [grace=N], each at most once and in this order
+-- the optional words of an account: [PORTS] [live=N] [grace=N] [station], each at most once and in
+-- this order
 unfoldable pub read_options : (words : List (List ℕ)) → Option Options
 read_options words =
     let ports = leading_number (codes "") words in
     let live = leading_number (codes "live=") ports.1 in
-    let grace = leading_number (codes "grace=") live.1 in
-    if length grace.1 == 0
-    then Some (record { ports = ports.0; live = live.0; grace = grace.0 })
-    else None
+    let grace = leading_number (codes "grace=") live.1 in do
+      station ← read_flag (codes "station") grace.1
+      Some (record { ports = ports.0; live = live.0; grace = grace.0; station = station })
 
 -- an account with one port, unless ports are given, and the times of the settings, unless it has
--- its own; its accepts have no further attributes
+-- its own; it counts by stations if its line says so, and its accepts have no further attributes
 abbrev pub account_with : (name password : List ℕ) → (places : ℕ) → Options → Entry
 account_with name password places options = record {
   name = name;
@@ -65,6 +59,7 @@ account_with name password places options = record {
   idle_timeout = None;
   own_live = options.live;
   own_grace = options.grace;
+  own_station = if options.station then Some true else None;
   interim = None;
   disabled = false;
   port_limit = true;

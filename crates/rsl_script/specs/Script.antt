@@ -77,6 +77,8 @@ contents_of said = record {
     closed = setting_in Closed 3600 said;
     keep = setting_in Keep 10 said;
     interim = None;
+    station = false;
+    delay_time = true;
   };
   clients = filter_map client_said said;
   accounts = filter_map account_said said;

@@ -15,6 +15,8 @@ with_setting settings line = record {
   closed = unwrap_or (value_said Closed line) settings.closed;
   keep = unwrap_or (value_said Keep line) settings.keep;
   interim = settings.interim;
+  station = settings.station;
+  delay_time = settings.delay_time;
 }
 
 abbrev pub contents_with : Contents → ScriptLine → Contents

@@ -1,6 +1,6 @@
 -- The values of words. (`address_of`, the octets of an IPv4 address, is a definition of
 -- `rsl_accounts`.)
-use Rattle.std.specs.Prelude.{ℕ, ◌≤◌, ◌^◌, ◌&&◌, nat_lt, nat_le, Bool, if◌then◌else◌, List, [], ◌∷◌, length, take, drop, codes, bytes_eq, Option, None, Some, option_map, option_and_then}
+use Rattle.std.specs.Prelude.{ℕ, ◌≤◌, ◌^◌, ◌&&◌, nat_lt, nat_le, Bool, true, false, if◌then◌else◌, List, [], ◌∷◌, length, take, drop, codes, bytes_eq, Option, None, Some, option_map, option_and_then}
 use Rattle.std.specs.Result.{result_ok}
 use Rattle.std.specs.Str.{all_ascii_digits}
 use Rattle.std.specs.Str.Parse.{digits_value}
@@ -57,25 +57,53 @@ rest_after beginning word =
     then Some (drop (length beginning) word)
     else None
 
--- the bundle of a word `multi=M`, M a text that fits an attribute
-unfoldable pub read_bundle : List ℕ → Option (List ℕ)
-read_bundle word = option_and_then read_name (rest_after (codes "multi=") word)
-
 -- the number in a word after this beginning
 unfoldable pub number_after : (beginning : List ℕ) → List ℕ → Option ℕ
 number_after beginning word = option_and_then read_number (rest_after beginning word)
 
--- the number of a word `class=N`
-unfoldable pub read_class : List ℕ → Option ℕ
-read_class word = number_after (codes "class=") word
+-- what the first word has, if anything, and the words that are left
+abbrev pub leading : {T : Type 0} → (words : List (List ℕ)) → (first : Option T)
+    → Option T × List (List ℕ)
+leading words None = (None, words)
+leading [] (Some value) = (None, [])
+leading (word ∷ rest) (Some value) = (Some value, rest)
 
 -- the number in the first word after this beginning, if it has one, and the words that are left
-abbrev pub leading : (words : List (List ℕ)) → (first : Option ℕ) → Option ℕ × List (List ℕ)
-leading words None = (None, words)
-leading [] (Some number) = (None, [])
-leading (word ∷ rest) (Some number) = (Some number, rest)
-
 unfoldable pub leading_number : (beginning : List ℕ) → (words : List (List ℕ))
     → Option ℕ × List (List ℕ)
 leading_number beginning [] = (None, [])
 leading_number beginning (word ∷ rest) = leading (word ∷ rest) (number_after beginning word)
+
+-- the rest of the first word after this beginning, and the words that are left
+unfoldable pub leading_text : (beginning : List ℕ) → (words : List (List ℕ))
+    → Option (List ℕ) × List (List ℕ)
+leading_text beginning [] = (None, [])
+leading_text beginning (word ∷ rest) = leading (word ∷ rest) (rest_after beginning word)
+
+-- a text that fits an attribute, or none
+unfoldable pub read_optional : Option (List ℕ) → Option (Option (List ℕ))
+read_optional None = Some None
+read_optional (Some word) = option_map Some (read_name word)
+
+-- the station of the words [station=S], S a text that fits an attribute
+unfoldable pub read_station : (words : List (List ℕ)) → Option (Option (List ℕ))
+read_station [] = Some None
+read_station (word ∷ []) =
+    option_map Some (option_and_then read_name (rest_after (codes "station=") word))
+read_station _ = None
+
+abbrev pub seconds_of : ℕ → Option ℕ
+seconds_of number = if nat_lt number (2 ^ 32) then Some number else None
+
+-- the delay of the words [delay=N], N a number under 2^32
+unfoldable pub read_delay : (words : List (List ℕ)) → Option (Option ℕ)
+read_delay [] = Some None
+read_delay (word ∷ []) =
+    option_map Some (option_and_then seconds_of (number_after (codes "delay=") word))
+read_delay _ = None
+
+-- whether the words are this word, or none
+unfoldable pub read_flag : (name : List ℕ) → (words : List (List ℕ)) → Option Bool
+read_flag name [] = Some false
+read_flag name (word ∷ []) = if bytes_eq word name then Some true else None
+read_flag name _ = None

@@ -11,7 +11,7 @@ use crate::event_line::Happening;
 use crate::fault::LineFault;
 use crate::limited::{AttributeText, Password};
 use crate::request::{AccessRequest, Method};
-use crate::values::{read_id, read_nas};
+use crate::values::{read_id, read_nas, read_station};
 use rsl_accounts::{Secret, address_of};
 use rsl_wire::NoMemory;
 use std::alloc::Global;
@@ -19,7 +19,7 @@ use std::alloc::Global;
 /// Octets of most lines without their moments, for which room is allocated at once.
 const USUAL_LEN: usize = 48;
 
-/// Reads the words `CLIENT NAS NAME PASSWORD ID` after a moment.
+/// Reads the words `CLIENT NAS NAME PASSWORD ID [station=S]` after a moment.
 #[tactic(auto, unfolding(crate::specs::Access::read_access))]
 pub(crate) fn read_access(
     alloc: Global,
@@ -39,7 +39,7 @@ pub(crate) fn read_access(
     }
 }
 
-/// Reads the words `NAS NAME PASSWORD ID` of a line with this text.
+/// Reads the words `NAS NAME PASSWORD ID [station=S]` of a line with this text.
 #[tactic(auto, unfolding(crate::specs::Access::access_request))]
 fn access_request(
     alloc: Global,
@@ -50,13 +50,14 @@ fn access_request(
     ensures { Reads (access_request method text (map (λ word. word.now) words.now)) result }
 {
     match words {
-        [nas, name, password, id] => Ok(AccessRequest {
+        [nas, name, password, id, rest @ ..] => Ok(AccessRequest {
             method,
             text,
             nas: read_nas(alloc, nas)?,
             name: AttributeText::read(alloc, name)?,
             password: Password::read(alloc, password)?,
             id: read_id(id).ok_or(LineFault::Wrong)?,
+            station: read_station(alloc, rest)?,
         }),
         _ => Err(LineFault::Wrong),
     }

@@ -4,30 +4,33 @@ ghost use Rattle.rsl_script.specs.Accounting.{
   read_accounting,
   ties_at,
   ties_of,
-  one_tie,
+  end_ties,
   report_of,
   server_report,
   session_report,
 };
 ghost use Rattle.rsl_script.specs.Reads.{Reads};
-ghost use Rattle.rsl_script.specs.Values.{read_bundle, read_class};
 
 use crate::event_line::Happening;
 use crate::fault::LineFault;
 use crate::limited::AttributeText;
 use crate::request::AccountingRequest;
-use crate::values::{read_bundle, read_class, read_nas};
+use crate::values::{
+    leading_number, leading_text, read_delay, read_nas, read_optional, read_station,
+};
 use rsl_accounts::address_of;
 use rsl_event::Status;
 use std::alloc::Global;
 
-/// What ties a session to its bundle and to its accept.
+/// What ties a session to its bundle, to its accept and to its station.
 #[derive(Drop)]
 struct Ties {
     /// The Acct-Multi-Session-Id, if the line has a word `multi=`.
     bundle: Option<AttributeText>,
     /// The number of the Class, if the line has a word `class=`.
     class: Option<u64>,
+    /// The Calling-Station-Id, if the line has a word `station=`.
+    station: Option<AttributeText>,
 }
 
 /// Reads the words after a moment: `CLIENT NAS`, and then those of the status.
@@ -68,7 +71,7 @@ fn report_of(
     }
 }
 
-/// The report of the access server itself, which has no further words.
+/// The report of the access server itself: `[delay=N]`.
 #[tactic(auto, unfolding(crate::specs::Accounting::server_report))]
 fn server_report(
     status: Status,
@@ -77,13 +80,11 @@ fn server_report(
 ) -> Result<AccountingRequest, LineFault>
     ensures { Reads (server_report status nas (map (λ word. word.now) words.now)) result }
 {
-    match words {
-        [] => Ok(AccountingRequest::Server { status, nas }),
-        _ => Err(LineFault::Wrong),
-    }
+    let delay = read_delay(words).ok_or(LineFault::Wrong)?;
+    Ok(AccountingRequest::Server { status, nas, delay })
 }
 
-/// The report on a session: `NAME SESSION`, and then `multi=M` and `class=N`.
+/// The report on a session: `NAME SESSION`, and then its ties.
 #[tactic(auto, unfolding(crate::specs::Accounting::session_report))]
 fn session_report(
     alloc: Global,
@@ -105,54 +106,46 @@ fn session_report(
                 session,
                 bundle: ties.bundle,
                 class: ties.class,
+                station: ties.station,
             })
         }
         _ => Err(LineFault::Wrong),
     }
 }
 
-/// The ties of a session, which its end does not have.
+/// The ties of a session. Its end has a station alone.
 #[tactic(auto, unfolding(crate::specs::Accounting::ties_at))]
 fn ties_at(alloc: Global, status: Status, words: &[&str]) -> Result<Ties, LineFault>
     ensures { Reads (ties_at status (map (λ word. word.now) words.now)) result }
 {
-    match (status, words) {
-        (Status::Stop, [_, ..]) => Err(LineFault::Wrong),
+    match status {
+        Status::Stop => end_ties(alloc, words),
         _ => ties_of(alloc, words),
     }
 }
 
-/// Reads the optional words `multi=M` and `class=N`, in this order.
+/// Reads the optional words `[multi=M] [class=N] [station=S]`, in this order.
 #[tactic(auto, unfolding(crate::specs::Accounting::ties_of))]
 fn ties_of(alloc: Global, words: &[&str]) -> Result<Ties, LineFault>
     ensures { Reads (ties_of (map (λ word. word.now) words.now)) result }
 {
-    match words {
-        [] => Ok(Ties {
-            bundle: None,
-            class: None,
-        }),
-        [word] => one_tie(alloc, word),
-        [multi, class] => Ok(Ties {
-            bundle: Some(read_bundle(alloc, multi)?),
-            class: Some(read_class(class).ok_or(LineFault::Wrong)?),
-        }),
-        _ => Err(LineFault::Wrong),
-    }
+    let (bundle, words) = leading_text("multi=", words);
+    let (class, words) = leading_number("class=", words);
+    Ok(Ties {
+        bundle: read_optional(alloc, bundle)?,
+        class,
+        station: read_station(alloc, words)?,
+    })
 }
 
-/// Reads one of the two words.
-fn one_tie(alloc: Global, word: &str) -> Result<Ties, LineFault>
-    ensures { Reads (one_tie (read_class word.now) (read_bundle word.now)) result }
+/// Reads the optional word `[station=S]` of a session's end.
+#[tactic(auto, unfolding(crate::specs::Accounting::end_ties))]
+fn end_ties(alloc: Global, words: &[&str]) -> Result<Ties, LineFault>
+    ensures { Reads (end_ties (map (λ word. word.now) words.now)) result }
 {
-    match read_class(word) {
-        Some(class) => Ok(Ties {
-            bundle: None,
-            class: Some(class),
-        }),
-        None => Ok(Ties {
-            bundle: Some(read_bundle(alloc, word)?),
-            class: None,
-        }),
-    }
+    Ok(Ties {
+        bundle: None,
+        class: None,
+        station: read_station(alloc, words)?,
+    })
 }

@@ -5,7 +5,6 @@ ghost use Rattle.rsl_script.specs.Line.{
   client_line,
   line_of,
   read_options,
-  read_signed,
   said_about,
   said_in,
   set_line,
@@ -15,7 +14,7 @@ ghost use Rattle.rsl_script.specs.Reads.{Reads};
 use crate::event_line::EventLine;
 use crate::fault::LineFault;
 use crate::happening::read_event;
-use crate::values::{leading_number, read_number};
+use crate::values::{leading_number, read_flag, read_number};
 use crate::verb::{Setting, Verb, setting_of, verb_of};
 use crate::words::{are_words, is_silent, line_words, text_of};
 use rsl_accounts::{Client, Entry, Reply, Rules, Secret, Text, address_of};
@@ -31,6 +30,8 @@ struct Options {
     live: Option<u64>,
     /// Its own grace time, in seconds.
     grace: Option<u64>,
+    /// Whether it counts by stations.
+    station: bool,
 }
 
 /// What a line of a script says.
@@ -117,7 +118,7 @@ fn client_line(alloc: Global, words: &[&str]) -> Result<ScriptLine, LineFault>
     match words {
         [address, secret, rest @ ..] => Ok(ScriptLine::Client(Client {
             address: address_of(address.as_bytes()).ok_or(LineFault::Wrong)?,
-            signed: read_signed(rest).ok_or(LineFault::Wrong)?,
+            signed: read_flag("signed", rest).ok_or(LineFault::Wrong)?,
             trusted: false,
             disconnect: None,
             secret: Secret::from_str(alloc, secret)?,
@@ -126,19 +127,7 @@ fn client_line(alloc: Global, words: &[&str]) -> Result<ScriptLine, LineFault>
     }
 }
 
-/// Whether the requests of a client must be signed: no word, or the word `signed`.
-#[tactic(auto, unfolding(crate::specs::Line::read_signed))]
-fn read_signed(words: &[&str]) -> Option<bool>
-    ensures { result ≡ read_signed (map (λ word. word.now) words.now) }
-{
-    match words {
-        [] => Some(false),
-        [word] if *word == "signed" => Some(true),
-        _ => None,
-    }
-}
-
-/// An account: `NAME PASSWORD PLACES [PORTS] [live=N] [grace=N]`.
+/// An account: `NAME PASSWORD PLACES [PORTS] [live=N] [grace=N] [station]`.
 #[tactic(auto, unfolding(crate::specs::Line::account_line))]
 fn account_line(alloc: Global, words: &[&str]) -> Result<ScriptLine, LineFault>
     ensures { Reads (account_line (map (λ word. word.now) words.now)) result }
@@ -153,7 +142,7 @@ fn account_line(alloc: Global, words: &[&str]) -> Result<ScriptLine, LineFault>
     }
 }
 
-/// The optional words of an account: `[PORTS] [live=N] [grace=N]`, in this order.
+/// The optional words of an account: `[PORTS] [live=N] [grace=N] [station]`, in this order.
 #[tactic(auto, unfolding(crate::specs::Line::read_options))]
 fn read_options(words: &[&str]) -> Option<Options>
     ensures { result ≡ read_options (map (λ word. word.now) words.now) }
@@ -161,14 +150,16 @@ fn read_options(words: &[&str]) -> Option<Options>
     let (ports, words) = leading_number("", words);
     let (live, words) = leading_number("live=", words);
     let (grace, words) = leading_number("grace=", words);
-    if !words.is_empty() {
-        return None;
-    }
-    Some(Options { ports, live, grace })
+    Some(Options {
+        ports,
+        live,
+        grace,
+        station: read_flag("station", words)?,
+    })
 }
 
 /// An account with one port, unless ports are given, and the times of the settings, unless it has
-/// its own. It fails only if memory is refused.
+/// its own. It counts by stations if its line says so. It fails only if memory is refused.
 fn account_with(
     alloc: Global,
     name: &str,
@@ -188,6 +179,7 @@ fn account_with(
         idle_timeout: None,
         own_live: options.live,
         own_grace: options.grace,
+        own_station: options.station.then_some(true),
         interim: None,
         disabled: false,
         port_limit: true,

@@ -43,6 +43,8 @@ pub struct AccessRequest {
     pub password: Password,
     /// The Identifier, and the CHAP Ident.
     pub id: u8,
+    /// The Calling-Station-Id, if the line has a word `station=`.
+    pub station: Option<AttributeText>,
 }
 
 /// The Accounting-Request of a line `start`, `interim`, `stop`, `on` or `off` (RFC 2866 section
@@ -63,6 +65,8 @@ pub enum AccountingRequest {
         bundle: Option<AttributeText>,
         /// The number of the Class, if the line has a word `class=`.
         class: Option<u64>,
+        /// The Calling-Station-Id, if the line has a word `station=`.
+        station: Option<AttributeText>,
     },
     /// It reports a restart of the access server: `on` or `off`.
     Server {
@@ -70,5 +74,7 @@ pub enum AccountingRequest {
         status: Status,
         /// The NAS-Identifier, if there is one.
         nas: Option<AttributeText>,
+        /// The Acct-Delay-Time in seconds, if the line has a word `delay=`.
+        delay: Option<u32>,
     },
 }

@@ -18,7 +18,8 @@ pub struct Script {
     /// The clients, in the order of their lines.
     pub clients: Vec<Client>,
     /// The accounts, in the order of their lines. The times of their rules are 0, for the
-    /// configuration to fill in; `live=N` and `grace=N` of a line are the account's own times.
+    /// configuration to fill in; `live=N` and `grace=N` of a line are the account's own times. An
+    /// account counts by stations if its line has the word `station`.
     pub accounts: Vec<Entry>,
     /// What happens, in the order of its lines.
     pub events: Vec<EventLine>,
@@ -56,6 +57,8 @@ impl Script {
                 closed: 3600,
                 keep: 10,
                 interim: None,
+                station: false,
+                delay_time: true,
             },
             clients: Vec::new(alloc),
             accounts: Vec::new(alloc),

@@ -6,10 +6,13 @@ ghost use Rattle.rsl_script.specs.Values.{
   read_nas,
   read_octets,
   rest_after,
-  read_bundle,
-  read_class,
   number_after,
   leading_number,
+  leading_text,
+  read_optional,
+  read_station,
+  read_delay,
+  read_flag,
 };
 
 use crate::fault::LineFault;
@@ -72,28 +75,12 @@ fn rest_after<'a>(beginning: &str, word: &'a str) -> Option<&'a str>
     word.strip_prefix(beginning)
 }
 
-/// The bundle of a word `multi=M`.
-#[tactic(auto, unfolding(crate::specs::Values::read_bundle))]
-pub(crate) fn read_bundle(alloc: Global, word: &str) -> Result<AttributeText, LineFault>
-    ensures { Reads (read_bundle word.now) result }
-{
-    AttributeText::read(alloc, rest_after("multi=", word).ok_or(LineFault::Wrong)?)
-}
-
 /// The number in a word after this beginning.
 #[tactic(auto, unfolding(crate::specs::Values::number_after))]
 fn number_after(beginning: &str, word: &str) -> Option<u64>
     ensures { result ≡ number_after beginning.now word.now }
 {
     read_number(rest_after(beginning, word)?)
-}
-
-/// The number of a word `class=N`.
-#[tactic(auto, unfolding(crate::specs::Values::read_class))]
-pub(crate) fn read_class(word: &str) -> Option<u64>
-    ensures { result ≡ read_class word.now }
-{
-    number_after("class=", word)
 }
 
 /// The number in the first word after this beginning, if it has one, and the words that are left.
@@ -113,5 +100,81 @@ pub(crate) fn leading_number<'a, 'b>(
     match number_after(beginning, word) {
         Some(number) => (Some(number), rest),
         None => (None, words),
+    }
+}
+
+/// The rest of the first word after this beginning, if it has it, and the words that are left.
+#[tactic(auto, unfolding(crate::specs::Values::leading_text))]
+pub(crate) fn leading_text<'a, 'b>(
+    beginning: &str,
+    words: &'a [&'b str],
+) -> (Option<&'b str>, &'a [&'b str])
+    ensures text { option_copied result.0 ≡
+        (leading_text beginning.now (map (λ word. word.now) words.now)).0 }
+    ensures rest { map (λ word. word.now) result.1.now ≡
+        (leading_text beginning.now (map (λ word. word.now) words.now)).1 }
+{
+    let [word, rest @ ..] = words else {
+        return (None, words);
+    };
+    match rest_after(beginning, word) {
+        Some(text) => (Some(text), rest),
+        None => (None, words),
+    }
+}
+
+/// The text of a word, if there is one.
+#[tactic(auto, unfolding(crate::specs::Values::read_optional))]
+pub(crate) fn read_optional(
+    alloc: Global,
+    word: Option<&str>,
+) -> Result<Option<AttributeText>, LineFault>
+    ensures { Reads (read_optional (option_copied word.entry)) result }
+{
+    match word {
+        Some(word) => Ok(Some(AttributeText::read(alloc, word)?)),
+        None => Ok(None),
+    }
+}
+
+/// The station of the words `[station=S]`.
+#[tactic(auto, unfolding(crate::specs::Values::read_station))]
+pub(crate) fn read_station(
+    alloc: Global,
+    words: &[&str],
+) -> Result<Option<AttributeText>, LineFault>
+    ensures { Reads (read_station (map (λ word. word.now) words.now)) result }
+{
+    match words {
+        [] => Ok(None),
+        [word] => {
+            let station = rest_after("station=", word).ok_or(LineFault::Wrong)?;
+            Ok(Some(AttributeText::read(alloc, station)?))
+        }
+        _ => Err(LineFault::Wrong),
+    }
+}
+
+/// The delay of the words `[delay=N]`, in seconds.
+#[tactic(auto, unfolding(crate::specs::Values::read_delay))]
+pub(crate) fn read_delay(words: &[&str]) -> Option<Option<u32>>
+    ensures { result ≡ read_delay (map (λ word. word.now) words.now) }
+{
+    match words {
+        [] => Some(None),
+        [word] => Some(Some(u32::try_from(number_after("delay=", word)?).ok()?)),
+        _ => None,
+    }
+}
+
+/// Whether the words are this word: false for no word, and `None` for other words.
+#[tactic(auto, unfolding(crate::specs::Values::read_flag))]
+pub(crate) fn read_flag(name: &str, words: &[&str]) -> Option<bool>
+    ensures { result ≡ read_flag name.now (map (λ word. word.now) words.now) }
+{
+    match words {
+        [] => Some(false),
+        [word] if *word == name => Some(true),
+        _ => None,
     }
 }
