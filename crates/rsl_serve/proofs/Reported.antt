@@ -1,5 +1,5 @@
 -- What a report's rows and a server's lines come to.
-use Rattle.std.proofs.Common.{◌≡◌, ℕ, ◌<◌, ◌≤◌, ◌⊎◌, inl, inr, List, [], ◌∷◌, ◌++◌, length, get_or, Some, None, ap, subst, ◌∙◌, arith}
+use Rattle.std.proofs.Common.{◌≡◌, ℕ, ◌<◌, ◌≤◌, ◌⊎◌, inl, inr, List, [], ◌∷◌, ◌++◌, length, get_or, Some, None, ap, subst, sym, ◌∙◌, arith}
 use Rattle.std.specs.Prelude.{All, IfOk, Result, Ok, Err, codes, slice_get}
 use Rattle.std.proofs.lemmas.Option.{slice_get-get_or, slice_get_cases}
 use Rattle.rsl_accounts.specs.Configuration.{Configuration}
@@ -8,11 +8,11 @@ use Rattle.rsl_accounts.specs.declared.entry.Entry.{Entry}
 use Rattle.rsl_service.specs.declared.counts.Counts.{Counts}
 use Rattle.rsl_record.specs.Output.{output_octets}
 use Rattle.rsl_record.specs.Table.{table}
-use Rattle.rsl_record.specs.declared.output.Output.{Output}
 use Rattle.rsl_serve.specs.Output.{counts_line}
 use Rattle.rsl_serve.specs.declared.fault.ServeFault.{ServeFault}
-use Rattle.rsl_serve.specs.Served.{HasClosed, HasReceived, HasReported, HasServed, IsServed}
-use Rattle.rsl_service.specs.Closed.{IsClosed}
+use Rattle.rsl_serve.specs.Served.{HasClosed, HasReported, HasServed, IsPrinted, IsReceived}
+use Rattle.rsl_serve.specs.declared.server.Served.{Served}
+use Rattle.rsl_service.specs.Closed.{ClosedSeen, IsClosed}
 use Rattle.rsl_service.specs.Receipts.{PassSeen, receipts_of}
 use Rattle.rsl_service.specs.Report.{IsReport}
 use Rattle.rsl_record.specs.declared.receipt.Receipt.{Receipt}
@@ -43,47 +43,48 @@ has_reported config rows report limits reported printed = record {
 }
 
 -- what both receivers did, and a report, is what a server prints
-pub is_served : (config : Configuration) (turns : ℕ) (auth_pass acct_pass ticks_pass : List Receipt)
-    (auth acct : Counts) (lines report : List ℕ)
-    → HasReported config report
-    → lines ≡ counts_line (codes "auth") auth ++ counts_line (codes "acct") acct
-    → HasReceived turns auth → HasReceived turns acct → HasClosed config auth_pass acct_pass ticks_pass
-    → IsServed config turns auth_pass acct_pass ticks_pass (lines ++ report)
-is_served config turns auth_pass acct_pass ticks_pass auth acct lines report reported line first second closed = record {
-  auth = auth;
-  acct = acct;
+pub is_printed : (config : Configuration) (auth acct : Counts) (lines report : List ℕ) → HasReported config report
+    → lines ≡ counts_line (codes "auth") auth ++ counts_line (codes "acct") acct → IsPrinted config auth acct (lines ++ report)
+is_printed config auth acct lines report reported line = record {
   report = report;
-  auth_received = first;
-  acct_received = second;
   reported = reported;
-  closed = closed;
   printed = ap (λ xs. xs ++ report) line;
 }
 
--- what was served, and its service closed with these passes, was so with some
-pub of_some_passes : (config : Configuration) (turns : ℕ) (auth_pass acct_pass ticks_pass : List Receipt)
-    (result : Result Output ServeFault)
-    → IfOk result (λ output. IsServed config turns auth_pass acct_pass ticks_pass (output_octets output))
-    → IfOk result (λ output. HasServed config turns (output_octets output))
-of_some_passes config turns auth_pass acct_pass ticks_pass (Ok output) served = record {
+-- a service that was closed with the passes of a list
+pub has_closed : (config : Configuration) (closed : ClosedSeen) (auth acct ticks : PassSeen)
+    (passes : List PassSeen) (given : List Segment)
+    → passes ≡ auth ∷ acct ∷ ticks ∷ [] → given ≡ []
+    → closed.config ≡ config → closed.opened ≡ length passes
+    → IsClosed config (receipts_of passes) given closed.segments
+    → HasClosed closed auth.receipts acct.receipts ticks.receipts
+has_closed config closed auth acct ticks passes given are none of opened settled = record {
+  opened = opened ∙ ap length are;
+  settled = subst (λ (config : Configuration). IsClosed config (auth.receipts ∷ acct.receipts ∷ ticks.receipts ∷ []) [] closed.segments) (sym of)
+      (subst (λ (passes : List PassSeen). IsClosed config (receipts_of passes) [] closed.segments) are
+      (subst (λ given. IsClosed config (receipts_of passes) given closed.segments) none settled));
+}
+
+-- what was closed and printed was served
+pub has_served : (config : Configuration) (turns : ℕ) (auth_pass acct_pass ticks_pass : List Receipt)
+    (result : Result Served ServeFault) → IfOk result (λ served. IsReceived turns served.auth)
+    → IfOk result (λ served. IsReceived turns served.acct)
+    → IfOk result (λ served. served.closed.config ≡ config)
+    → IfOk result (λ served. HasClosed served.closed auth_pass acct_pass ticks_pass)
+    → IfOk result (λ served. IsPrinted config served.auth.counts served.acct.counts (output_octets served.output))
+    → IfOk result (λ served. HasServed served.closed turns (output_octets served.output))
+has_served config turns auth_pass acct_pass ticks_pass (Ok served) first second of closed printed = record {
+  auth = served.auth.counts;
+  acct = served.acct.counts;
   auth_pass = auth_pass;
   acct_pass = acct_pass;
   ticks_pass = ticks_pass;
-  served = served;
+  auth_received = first.taken;
+  acct_received = second.taken;
+  passes = closed;
+  printed = subst (λ (config : Configuration). IsPrinted config served.auth.counts served.acct.counts (output_octets served.output)) (sym of) printed;
 }
-of_some_passes config turns auth_pass acct_pass ticks_pass (Err fault) served = tt
-
--- a service that was closed with the passes of a list
-pub has_closed : (config : Configuration) (auth acct ticks : PassSeen)
-    (passes : List PassSeen) (given segments : List Segment)
-    → passes ≡ auth ∷ acct ∷ ticks ∷ [] → given ≡ []
-    → IsClosed config (receipts_of passes) given segments
-    → HasClosed config auth.receipts acct.receipts ticks.receipts
-has_closed config auth acct ticks passes given segments are none closed = record {
-  segments = segments;
-  closed = subst (λ (passes : List PassSeen). IsClosed config (receipts_of passes) [] segments) are
-      (subst (λ given. IsClosed config (receipts_of passes) given segments) none closed);
-}
+has_served config turns auth_pass acct_pass ticks_pass (Err fault) first second of closed printed = tt
 
 pub ruleset reported = rows_of_accounts
 

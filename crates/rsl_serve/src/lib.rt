@@ -5,7 +5,7 @@
 //! what each account holds. What a datagram does to the accounts, and what a receiver does, is in
 //! `rsl_service`.
 //!
-//! The promise: what `serve` has printed after a success, and that its service was closed
+//! The promise: what `serve` has printed after a success, and its service, which it has closed
 //! (`specs/Served.antt`). What the arguments ask for is exactly `specs/Plan.antt`, what is printed
 //! of the receivers `specs/Output.antt`, and the exit status of each fault `specs/Fault.antt`. A
 //! socket is a port that counts its calls (`rsl_port`).
@@ -24,5 +24,6 @@ pub use fault::ServeFault;
 pub use output::counts_of;
 pub use plan::Plan;
 pub use rsl_port::SystemClock;
+pub use rsl_service::Closed;
 pub use server::serve;
 pub use udp_port::UdpPort;

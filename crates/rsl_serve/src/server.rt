@@ -1,19 +1,18 @@
-ghost use Rattle.std.specs.Prelude.{◌≡◌, ◌≢◌, ◌∷◌, ℕ, List, [], IfErr, IfOk, OnOk};
+ghost use Rattle.std.specs.Prelude.{◌≡◌, ◌≢◌, ◌∷◌, ℕ, List, [], IfErr, IfOk};
 ghost use Rattle.std.specs.Io.KnownBytes.{Appends, Keeps};
-ghost use Rattle.rsl_accounts.specs.Configuration.{Configuration};
 ghost use Rattle.rsl_service.specs.Told.{no_numbers};
-ghost use Rattle.rsl_record.specs.declared.receipt.Receipt.{Receipt};
 ghost use Rattle.rsl_record.specs.Output.{output_octets};
-ghost use Rattle.rsl_serve.specs.Served.{HasClosed, HasReceived, HasReported, HasServed, IsServed};
+ghost use Rattle.rsl_serve.specs.Served.{HasClosed, HasReported, HasServed, IsPrinted, IsReceived};
 ghost use Rattle.rsl_service.specs.Service.{IsLedgerOf};
 
 use crate::clock::RunTime;
 use crate::shutdown::Shutdown;
+use crate::workers::Received;
 use crate::{Plan, ServeFault, UdpPort, counts_of};
 use rsl_account_file::read_config_file;
 use rsl_accounts::Config;
 use rsl_record::{Output, table_of};
-use rsl_service::{Blanks, Counts, Open, Pass, Service, Tally};
+use rsl_service::{Blanks, Closed, Counts, Open, Pass, Service, Tally};
 use std::alloc::Global;
 use std::env::{self, Env};
 use std::fs::Files;
@@ -35,30 +34,31 @@ use std::time;
 /// bound or fails, a thread cannot be made, or the record is not settled at the end, and if a write
 /// fails. `NoMemory` comes if memory is refused, except in a step.
 ///
-/// It receives no datagram in the second of its start, which is its boot number.
-pub fn serve<R, W: Write>(rt: &R, stdout: &mut W) -> Result<(), ServeFault>
+/// It receives no datagram in the second of its start, which is its boot number. What it gives is
+/// its service, closed.
+pub fn serve<R, W: Write>(rt: &R, stdout: &mut W) -> Result<Closed, ServeFault>
 where
     R: Env + Files + Net + time::Clock + AllocGlobal + Threads + Wait + Sync,
-    // What is written is what the receivers did and what the accounts hold, and nothing else; and
-    // the service was closed.
-    ensures served { OnOk result ((config : Configuration) × (turns : ℕ) × (written : List ℕ)
-        × HasServed config turns written
+    // What is written is what the receivers did and what the accounts hold, and nothing else; the
+    // service was closed with the passes of its workers.
+    ensures served { IfOk result (λ closed. (turns : ℕ) × (written : List ℕ)
+        × HasServed closed turns written
         × Appends (W.contents stdout.old) (W.contents stdout.new) written) }
     // Nothing was written after any fault but `InputOutput`.
     ensures silent { IfErr result (λ fault.
         fault ≢ ServeFault.InputOutput → Keeps (W.contents stdout.old) (W.contents stdout.new)) }
 {
-    let output = run_server(rt)?;
-    output.write(stdout)?;
-    Ok(())
+    let served = run_server(rt)?;
+    served.output.write(stdout)?;
+    Ok(served.closed)
 }
 
-/// Runs a server by its arguments, and gives what is then printed.
-fn run_server<R>(rt: &R) -> Result<Output, ServeFault>
+/// Runs a server by its arguments.
+fn run_server<R>(rt: &R) -> Result<Served, ServeFault>
 where
     R: Env + Files + Net + time::Clock + AllocGlobal + Threads + Wait + Sync,
-    ensures { IfOk result (λ output. (config : Configuration) × (turns : ℕ)
-        × HasServed config turns (output_octets output)) }
+    ensures { IfOk result (λ served. (turns : ℕ)
+        × HasServed served.closed turns (output_octets served.output)) }
 {
     let start = rt.since_1970();
     let alloc = rt.alloc();
@@ -115,12 +115,24 @@ pub(crate) struct Passes<L0: Tally, L1: Tally, L2: Tally, L3: Tally> {
     pub ticks: Pass<L0, L1, L2, L3>,
 }
 
-/// The results of a server's workers: the counts of both receivers, and the passes.
+/// The results of a server's workers: what both receivers did, and the passes.
 #[derive(Drop)]
 pub(crate) struct Finished<L0: Tally, L1: Tally, L2: Tally, L3: Tally> {
-    pub auth: Counts,
-    pub acct: Counts,
+    pub auth: Received,
+    pub acct: Received,
     pub passes: Passes<L0, L1, L2, L3>,
+}
+
+/// What a server leaves that has ended well.
+#[derive(Drop)]
+pub(crate) struct Served {
+    /// What is printed.
+    pub output: Output,
+    /// Its service, closed with the passes of its workers.
+    pub closed: Closed,
+    /// What its receivers did.
+    pub auth: Received,
+    pub acct: Received,
 }
 
 /// A running server: its service, and what its workers share.
@@ -141,7 +153,7 @@ fn run<L0, L1, L2, L3, R>(
     config: Config,
     sockets: Sockets,
     run_time: RunTime,
-) -> Result<Output, ServeFault>
+) -> Result<Served, ServeFault>
 where
     L0: Tally + Send + Sync,
     L1: Tally + Send + Sync,
@@ -158,7 +170,13 @@ where
         blanks.blank3.name blanks.blank3.parts L3.name L3.parts L3.setup L3.books }
     requires auth { sockets.auth ≡ no_numbers }
     requires acct { sockets.acct ≡ no_numbers }
-    ensures { IfOk result (λ output. HasServed config run_time.turns (output_octets output)) }
+    ensures config { IfOk result (λ served. served.closed.config ≡ config) }
+    ensures auth { IfOk result (λ served. IsReceived run_time.turns served.auth) }
+    ensures acct { IfOk result (λ served. IsReceived run_time.turns served.acct) }
+    ensures printed { IfOk result (λ served. IsPrinted config
+        served.auth.counts served.acct.counts (output_octets served.output)) }
+    ensures served { IfOk result (λ served.
+        HasServed served.closed run_time.turns (output_octets served.output)) }
 {
     let service: Service<L0, L1, L2, L3, Open> = Service::new(
         alloc,
@@ -201,10 +219,8 @@ impl<L0: Tally, L1: Tally, L2: Tally, L3: Tally, R: Wait> Server<'_, L0, L1, L2,
 
     /// What is printed of the service and its receivers.
     fn output(&self, auth: &Counts, acct: &Counts) -> Result<Output, ServeFault>
-        ensures { (turns : ℕ) (first second third : List Receipt) →
-            HasReceived turns auth.now → HasReceived turns acct.now →
-            HasClosed self.now.service.config first second third → IfOk result (λ output.
-            IsServed self.now.service.config turns first second third (output_octets output)) }
+        ensures { IfOk result (λ output.
+            IsPrinted self.now.service.config auth.now acct.now (output_octets output)) }
     {
         let report = self.report()?;
         let lines = counts_of(self.alloc, auth, acct)?;
@@ -212,13 +228,22 @@ impl<L0: Tally, L1: Tally, L2: Tally, L3: Tally, R: Wait> Server<'_, L0, L1, L2,
     }
 
     /// Takes the report of the service, and closes it with these passes.
-    fn close(self, finished: Finished<L0, L1, L2, L3>) -> Result<Output, ServeFault>
-        ensures { (turns : ℕ) → HasReceived turns finished.auth →
-            HasReceived turns finished.acct →
-            IfOk result (λ output. IsServed self.entry.service.config turns finished.passes.auth.receipts
-            finished.passes.acct.receipts finished.passes.ticks.receipts (output_octets output)) }
+    fn close(self, finished: Finished<L0, L1, L2, L3>) -> Result<Served, ServeFault>
+        requires auth { IsReceived self.run_time.turns finished.auth }
+        requires acct { IsReceived self.run_time.turns finished.acct }
+        ensures config { IfOk result (λ served.
+            served.closed.config ≡ self.entry.service.config) }
+        ensures closed { IfOk result (λ served. HasClosed served.closed
+            finished.passes.auth.receipts finished.passes.acct.receipts finished.passes.ticks.receipts) }
+        ensures auth { IfOk result (λ served.
+            IsReceived self.entry.run_time.turns served.auth) }
+        ensures acct { IfOk result (λ served.
+            IsReceived self.entry.run_time.turns served.acct) }
+        ensures printed { IfOk result (λ served. IsPrinted self.entry.service.config
+            served.auth.counts served.acct.counts (output_octets served.output)) }
     {
-        let output = self.output(&finished.auth, &finished.acct)?;
+        let Finished { auth, acct, passes } = finished;
+        let output = self.output(&auth.counts, &acct.counts)?;
         let Server {
             rt: _,
             alloc,
@@ -226,8 +251,13 @@ impl<L0: Tally, L1: Tally, L2: Tally, L3: Tally, R: Wait> Server<'_, L0, L1, L2,
             run_time: _,
             shutdown: _,
         } = self;
-        close_service(alloc, service, finished.passes)?;
-        Ok(output)
+        let closed = close_service(alloc, service, passes)?;
+        Ok(Served {
+            output,
+            closed,
+            auth,
+            acct,
+        })
     }
 }
 
@@ -237,14 +267,14 @@ fn close_service<L0: Tally, L1: Tally, L2: Tally, L3: Tally>(
     alloc: Global,
     service: Service<L0, L1, L2, L3, Open>,
     passes: Passes<L0, L1, L2, L3>,
-) -> Result<(), ServeFault>
-    ensures { OnOk result
-        (HasClosed service.config
+) -> Result<Closed, ServeFault>
+    ensures config { IfOk result (λ closed. closed.config ≡ service.config) }
+    ensures closed { IfOk result (λ closed. HasClosed closed
         passes.auth.receipts passes.acct.receipts passes.ticks.receipts) }
 {
     let passes = into_vec(alloc, passes)?;
-    service.close(alloc, passes, Vec::new(alloc))?;
-    Ok(())
+    let closed = service.close(alloc, passes, Vec::new(alloc))?;
+    Ok(closed)
 }
 
 /// The passes as a list.

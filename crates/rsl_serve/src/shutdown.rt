@@ -2,6 +2,7 @@
 //! does.
 
 use crate::UdpPort;
+use crate::udp_port::ClosedPort;
 use rsl_event::Source;
 use rsl_service::{DatagramPort, PortFault};
 use std::sync::atomic::{AtomicBool, AtomicU64, Ordering};
@@ -100,6 +101,14 @@ impl<'a> PairedPort<'a> {
         ensures { result.port ≡ port }
     {
         PairedPort { port, shutdown }
+    }
+
+    /// Closes the port.
+    pub(crate) fn close(self) -> ClosedPort
+        ensures { result.numbers ≡ self.entry.port }
+    {
+        let PairedPort { port, shutdown: _ } = self;
+        port.close()
     }
 }
 

@@ -22,6 +22,12 @@ pub struct UdpPort {
     numbers: Numbers,
 }
 
+/// A UDP socket that was closed, with the counts of its calls. Only `UdpPort::close` makes one.
+#[derive(Drop)]
+pub(crate) struct ClosedPort {
+    numbers: Numbers,
+}
+
 impl Model for UdpPort {
     ghost use Rattle.rsl_port.specs.declared.datagram_port.Numbers.{Numbers as PortNumbers};
 
@@ -55,6 +61,15 @@ impl UdpPort {
         let failed = Err(PortFault);
         self.numbers.note_receive(&failed);
         failed
+    }
+
+    /// Closes the socket.
+    pub(crate) fn close(self) -> ClosedPort
+        ensures { result.numbers ≡ self }
+    {
+        let UdpPort { socket, numbers } = self;
+        drop(socket);
+        ClosedPort { numbers }
     }
 
     /// The result of a `receive`, not counted yet. `PortFault` comes if the system's read fails;

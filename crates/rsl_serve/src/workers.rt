@@ -1,10 +1,11 @@
 ghost use Rattle.std.specs.Prelude.{◌≡◌, IfOk};
 ghost use Rattle.rsl_service.specs.Told.{no_numbers};
-ghost use Rattle.rsl_serve.specs.Served.{HasReceived};
+ghost use Rattle.rsl_serve.specs.Served.{IsReceived};
 
 use crate::clock::EverySecond;
 use crate::server::{Finished, Passes, Server, Sockets};
 use crate::shutdown::PairedPort;
+use crate::udp_port::ClosedPort;
 use crate::{ServeFault, SystemClock, UdpPort};
 use rsl_event::Port;
 use rsl_service::{Counts, Pass, Tally, expire_loop, receive};
@@ -20,8 +21,17 @@ struct Receiver<L0: Tally, L1: Tally, L2: Tally, L3: Tally> {
     pass: Pass<L0, L1, L2, L3>,
 }
 
-/// The result of a receiver: its counts, and its pass.
-type Outcome<L0, L1, L2, L3> = Result<(Counts, Pass<L0, L1, L2, L3>), ServeFault>;
+/// What a receiver did.
+#[derive(Drop)]
+pub(crate) struct Received {
+    /// Its counts.
+    pub counts: Counts,
+    /// Its port, which was called as the counts say.
+    pub port: ClosedPort,
+}
+
+/// The result of a receiver: what it did, and its pass.
+type Outcome<L0, L1, L2, L3> = Result<(Received, Pass<L0, L1, L2, L3>), ServeFault>;
 
 /// The results of both receivers, that of the authentication port first.
 type Outcomes<L0, L1, L2, L3> = (Outcome<L0, L1, L2, L3>, Outcome<L0, L1, L2, L3>);
@@ -42,8 +52,8 @@ where
     ) -> Result<Finished<L0, L1, L2, L3>, ServeFault>
         requires auth { sockets.auth ≡ no_numbers }
         requires acct { sockets.acct ≡ no_numbers }
-        ensures auth { IfOk result (λ finished. HasReceived self.now.run_time.turns finished.auth) }
-        ensures acct { IfOk result (λ finished. HasReceived self.now.run_time.turns finished.acct) }
+        ensures auth { IfOk result (λ finished. IsReceived self.now.run_time.turns finished.auth) }
+        ensures acct { IfOk result (λ finished. IsReceived self.now.run_time.turns finished.acct) }
     {
         let auth = Receiver {
             port: Port::Auth,
@@ -67,8 +77,8 @@ where
     ) -> Result<Finished<L0, L1, L2, L3>, ServeFault>
         requires auth { auth.datagrams ≡ no_numbers }
         requires acct { acct.datagrams ≡ no_numbers }
-        ensures auth { IfOk result (λ finished. HasReceived self.now.run_time.turns finished.auth) }
-        ensures acct { IfOk result (λ finished. HasReceived self.now.run_time.turns finished.acct) }
+        ensures auth { IfOk result (λ finished. IsReceived self.now.run_time.turns finished.auth) }
+        ensures acct { IfOk result (λ finished. IsReceived self.now.run_time.turns finished.acct) }
     {
         let server = self;
         // If no thread can be made, the first runs last: the worker that makes ticks, which then
@@ -79,8 +89,8 @@ where
             move || -> Outcomes<L0, L1, L2, L3>
                 requires auth { auth.datagrams ≡ no_numbers }
                 requires acct { acct.datagrams ≡ no_numbers }
-                ensures auth { IfOk result.0 (λ received. HasReceived server.entry.now.run_time.turns received.0) }
-                ensures acct { IfOk result.1 (λ received. HasReceived server.entry.now.run_time.turns received.0) }
+                ensures auth { IfOk result.0 (λ received. IsReceived server.entry.now.run_time.turns received.0) }
+                ensures acct { IfOk result.1 (λ received. IsReceived server.entry.now.run_time.turns received.0) }
             { server.run_receivers(auth, acct) },
         );
         // The other receiver fails too, but only because this one was refused memory.
@@ -108,19 +118,19 @@ where
     ) -> Outcomes<L0, L1, L2, L3>
         requires auth { auth.datagrams ≡ no_numbers }
         requires acct { acct.datagrams ≡ no_numbers }
-        ensures auth { IfOk result.0 (λ received. HasReceived self.now.run_time.turns received.0) }
-        ensures acct { IfOk result.1 (λ received. HasReceived self.now.run_time.turns received.0) }
+        ensures auth { IfOk result.0 (λ received. IsReceived self.now.run_time.turns received.0) }
+        ensures acct { IfOk result.1 (λ received. IsReceived self.now.run_time.turns received.0) }
     {
         let server = self;
         thread::join(
             self.rt,
             move || -> Outcome<L0, L1, L2, L3>
                 requires { auth.datagrams ≡ no_numbers }
-                ensures { IfOk result (λ received. HasReceived server.entry.now.run_time.turns received.0) }
+                ensures { IfOk result (λ received. IsReceived server.entry.now.run_time.turns received.0) }
             { server.run_receiver(auth) },
             move || -> Outcome<L0, L1, L2, L3>
                 requires { acct.datagrams ≡ no_numbers }
-                ensures { IfOk result (λ received. HasReceived server.entry.now.run_time.turns received.0) }
+                ensures { IfOk result (λ received. IsReceived server.entry.now.run_time.turns received.0) }
             { server.run_receiver(acct) },
         )
     }
@@ -128,7 +138,7 @@ where
     /// Runs a receiver. It also fails if the other one has failed, or a worker has not started.
     fn run_receiver(&self, receiver: Receiver<L0, L1, L2, L3>) -> Outcome<L0, L1, L2, L3>
         requires { receiver.datagrams ≡ no_numbers }
-        ensures { IfOk result (λ received. HasReceived self.now.run_time.turns received.0) }
+        ensures { IfOk result (λ received. IsReceived self.now.run_time.turns received.0) }
     {
         let Receiver {
             port,
@@ -141,7 +151,7 @@ where
             return Err(ServeFault::InputOutput);
         }
         match self.receive_turns(port, datagrams, &mut pass) {
-            Ok(counts) => Ok((counts, pass)),
+            Ok(received) => Ok((received, pass)),
             Err(fault) => Err(fault),
         }
     }
@@ -152,9 +162,9 @@ where
         port: Port,
         datagrams: UdpPort,
         pass: &mut Pass<L0, L1, L2, L3>,
-    ) -> Result<Counts, ServeFault>
+    ) -> Result<Received, ServeFault>
         requires { datagrams ≡ no_numbers }
-        ensures { IfOk result (λ counts. HasReceived self.now.run_time.turns counts) }
+        ensures { IfOk result (λ received. IsReceived self.now.run_time.turns received) }
     {
         let mut datagrams = PairedPort::new(datagrams, &self.shutdown);
         let mut clock = SystemClock::new(self.rt, self.run_time.boot);
@@ -172,7 +182,11 @@ where
             Ok(_) => self.shutdown.note_end(),
             Err(_) => self.shutdown.note_failure(),
         }
-        Ok(result?)
+        let counts = result?;
+        Ok(Received {
+            counts,
+            port: datagrams.close(),
+        })
     }
 
     /// Runs the worker that ticks every shard once a second, until both receivers have ended.

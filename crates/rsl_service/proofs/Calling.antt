@@ -1,5 +1,5 @@
 -- How the numbers of a port and the counts of its receiver rise with a turn.
-use Rattle.std.proofs.Common.{◌≡◌, ℕ, ◌+◌, ◌<◌, ◌≤◌, ◌^◌, Bool, cond, refl, sym, ◌∙◌, subst, arith}
+use Rattle.std.proofs.Common.{◌≡◌, ℕ, ◌+◌, ◌<◌, ◌≤◌, Bool, cond, refl, sym, ◌∙◌, subst, arith}
 use Rattle.rsl_service.specs.Counted.{AddsUp, AreCounted, IsCalled, no_counts}
 use Rattle.rsl_port.specs.Told.{CanReceive, CanSend}
 use Rattle.rsl_service.specs.Turned.{HasCalled, counted, is_down}

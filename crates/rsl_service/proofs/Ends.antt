@@ -1,5 +1,5 @@
 -- What the journals of all shards come to, when a service is closed.
-use Rattle.std.proofs.Common.{◌≡◌, ◌≢◌, ℕ, zero, suc, ◌+◌, ◌<◌, ◌≤◌, ◌⊎◌, List, [], ◌∷◌, ◌++◌, Option, Some, None, Bool, true, false, cond, not, ◌&&◌, ◌==◌, refl, sym, ap, subst, ◌∙◌, arith, length, length-append, append-nil, map, inl, inr, true≢false, is_lt, nat_cmp, Less, Equal, Greater, lt-ltb, le-ltb, eq-eqb, ne_eqb}
+use Rattle.std.proofs.Common.{◌≡◌, ◌≢◌, ℕ, zero, suc, ◌+◌, ◌<◌, ◌≤◌, ◌⊎◌, List, [], ◌∷◌, ◌++◌, Option, Some, None, Bool, true, false, cond, not, ◌&&◌, ◌==◌, refl, sym, ap, subst, ◌∙◌, arith, length, length-append, append-nil, inl, inr, true≢false, is_lt, nat_cmp, Less, Equal, Greater, lt-ltb, le-ltb, eq-eqb, ne_eqb}
 use Rattle.std.specs.Prelude.{IfSome, filter, is_some, nat_lt}
 use Rattle.std.specs.List.{flat_map, sum_by}
 use Rattle.std.specs.List.Sorted.{IsNonDecreasingBy, IsStableByKey, ties}
@@ -141,6 +141,12 @@ closes ended passes given sorted ends told settled same by_shard = record {
   same = same;
   by_shard = by_shard;
 }
+
+-- whose passes are then all that it opened
+pub all_given : (opened : ℕ) (config : Configuration) (passes passes_seen : List PassSeen) (given_seen : List Segment)
+    → passes_seen ≡ passes → IsSettled config opened (receipts_of passes_seen) given_seen → opened ≡ length passes
+all_given opened config passes passes_seen given_seen is_passes settled =
+    sym settled.given ∙ length-map passes_seen (λ (pass : PassSeen). pass.receipts) ∙ ap length is_passes
 
 -- and why it is not, by what was seen of the parts of its record
 pub faults : (ended : EndedSeen) (passes passes_seen : List PassSeen) (given given_seen present_seen : List Segment) (fault : CloseFault)

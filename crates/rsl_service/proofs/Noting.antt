@@ -18,7 +18,7 @@ none_noted moved old = refl
 -- a fault that came before any move has left the receipts as they were
 pub none_stopped : (service : ServiceSeen) (moment : ℕ) (meaning : Meaning) (old : List Receipt)
     → IsStopped service moment meaning (faults.NoMemory 0) old old
-none_stopped service moment (Restart nas) old = none_noted (moves.Sweep moment nas) old
+none_stopped service moment (Restart nas delay) old = none_noted (moves.Sweep moment nas delay) old
 none_stopped service moment (Own account act) old = (refl, refl)
 none_stopped service moment (Stray note) old = (refl, refl)
 none_stopped service moment Bare old = (refl, refl)

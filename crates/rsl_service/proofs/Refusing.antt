@@ -43,7 +43,7 @@ uncopied service port source datagram shown old takes = record {
 has_stopped : (service : ServiceSeen) (moment : ℕ) (meant : Meaning) (fault : ApplyFault)
     (old new : List Receipt) → IsStopped service moment meant fault old new
     → swept_before fault < service.config.settings.shards → HasStopped service moment meant old new
-has_stopped service moment (Restart nas) fault old new stopped fewer = (swept_before fault, fewer, stopped)
+has_stopped service moment (Restart nas delay) fault old new stopped fewer = (swept_before fault, fewer, stopped)
 has_stopped service moment (Own account act) fault old new stopped fewer = stopped.1
 has_stopped service moment (Stray note) fault old new stopped fewer = stopped.1
 has_stopped service moment Bare fault old new stopped fewer = stopped.1

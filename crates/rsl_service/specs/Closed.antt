@@ -93,6 +93,13 @@ pub record IsEndOf (config : Configuration) (ended : EndedSeen) : Type 0 where
   pub most : ended.opened ≤ 1024
   pub ends : HaveEnds ended.config ended.present
 
+-- what a contract sees of a closed service: its configuration, the number of passes that it opened,
+-- and the segments of all shards
+pub record ClosedSeen : Type 0 where
+  pub config : Configuration
+  pub opened : ℕ
+  pub segments : List Segment
+
 -- A service is closed if what came out of its locks is.
 pub record IsClosed (config : Configuration) (passes : List (List Receipt)) (given : List Segment)
     (closed : List Segment) : Type 0 where

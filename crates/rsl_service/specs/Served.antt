@@ -27,9 +27,9 @@ pub record IsDropped (service : ServiceSeen) (port : Port) (taken : Datagram) : 
 -- what an unanswered datagram leaves, at a moment: a restart leaves sweeps of the first shards,
 -- fewer than all; another leaves nothing
 abbrev pub HasStopped : ServiceSeen → (moment : ℕ) → Meaning → (old new : List Receipt) → Type 0
-HasStopped service moment (Restart nas) old new =
+HasStopped service moment (Restart nas delay) old new =
     (swept : ℕ) × (swept < service.config.settings.shards)
-    × AreNoted swept (moves.Sweep moment nas) old new
+    × AreNoted swept (moves.Sweep moment nas delay) old new
 HasStopped service moment _ old new = new ≡ old
 
 -- a datagram has a meaning, and was not answered: before the clock showed a moment for its moves,

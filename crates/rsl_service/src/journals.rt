@@ -13,6 +13,7 @@ ghost use Rattle.std.specs.Prelude.{
   OnOk,
   Some,
   is_some,
+  length,
   map,
   nat_lt,
 };
@@ -128,12 +129,36 @@ fn cut_under_lock<L: Tally, R: Wait>(
     Ok(loose.join())
 }
 
-/// The journals of a service that was closed.
+/// A service that was closed. Only `Service::close` makes one.
+///
+/// A contract sees the configuration, how many passes were opened, and the segments.
 #[derive(Drop)]
 pub struct Closed {
+    config: Config,
+    opened: u64,
+    segments: Vec<Segment>,
+}
+
+impl Model for Closed {
+    ghost use Rattle.rsl_service.specs.Closed.{ClosedSeen};
+
+    ghost Value = { ClosedSeen };
+
+    ghost view = { λ closed. record {
+      config = closed.config;
+      opened = closed.opened;
+      segments = closed.segments.items;
+    } };
+}
+
+impl Closed {
     /// The segments of all shards, by shard, those of a shard in order. The last of a shard is its
     /// journal when the service was closed.
-    pub segments: Vec<Segment>,
+    pub fn segments(&self) -> &[Segment]
+        ensures { result.now ≡ self.now.segments }
+    {
+        self.segments.as_slice()
+    }
 }
 
 impl<L0: Tally, L1: Tally, L2: Tally, L3: Tally, G: Gate + Drop> Service<L0, L1, L2, L3, G> {
@@ -156,8 +181,10 @@ impl<L0: Tally, L1: Tally, L2: Tally, L3: Tally, G: Gate + Drop> Service<L0, L1,
         passes: Vec<Pass<L0, L1, L2, L3>>,
         segments: Vec<Segment>,
     ) -> Result<Closed, CloseFault>
+        ensures config { IfOk result (λ closed. closed.config ≡ self.config) }
+        ensures opened { IfOk result (λ closed. closed.opened ≡ length passes.items) }
         ensures closed { IfOk result (λ closed.
-            IsClosed self.config (receipts_of passes.items) segments.items closed.segments.items) }
+            IsClosed self.config (receipts_of passes.items) segments.items closed.segments) }
         ensures err { IfErr result (IsUnsettled self.config (receipts_of passes.items) segments.items) }
     {
         let ended = self.end(alloc)?;
@@ -292,8 +319,10 @@ impl<L0: Tally, L1: Tally, L2: Tally, L3: Tally> EndedService<L0, L1, L2, L3> {
         passes: Vec<Pass<L0, L1, L2, L3>>,
         segments: Vec<Segment>,
     ) -> Result<Closed, CloseFault>
+        ensures config { IfOk result (λ closed. closed.config ≡ self.config) }
+        ensures opened { IfOk result (λ closed. closed.opened ≡ length passes.items) }
         ensures closed { IfOk result (λ closed.
-            IsClosedBy self (receipts_of passes.items) segments.items closed.segments.items) }
+            IsClosedBy self (receipts_of passes.items) segments.items closed.segments) }
         ensures err { IfErr result (IsFaultOf self (receipts_of passes.items) segments.items) }
     {
         let EndedService {
@@ -314,7 +343,11 @@ impl<L0: Tally, L1: Tally, L2: Tally, L3: Tally> EndedService<L0, L1, L2, L3> {
         shares.gather(passes);
         ledgers.audit(shares);
         let segments = by_shard(segments, present)?;
-        Ok(Closed { segments })
+        Ok(Closed {
+            config,
+            opened,
+            segments,
+        })
     }
 }
 

@@ -1,16 +1,18 @@
-use Rattle.std.proofs.Common.{IfOk, ap, subst}
+use Rattle.std.proofs.Common.{◌≡◌, IfOk, ap, subst}
 use Rattle.rsl_accounts.specs.Configuration.{Configuration}
-use Rattle.rsl_record.specs.Output.{output_octets}
-use Rattle.rsl_serve.specs.Served.{HasServed}
 use Rattle.rsl_service.specs.Service.{ServiceSeen}
-use Rattle.rsl_serve.proofs.Reported.{of_some_passes}
+use Rattle.rsl_serve.proofs.Reported.{has_served}
 use Rattle.rsl_serve.proofs.server.run.Goals as goal
 
-pub returns : goal.returns
-returns g c =
-    subst (λ (config : Configuration). IfOk c.close.result (λ output. HasServed config c.args.run_time.turns (output_octets output)))
-    (ap (λ (service : ServiceSeen). service.config) c.in_ok-service.ensures)
-    (of_some_passes c.in_ok-service.service.config c.args.run_time.turns
-    c.in_ok-finished.finished.passes.auth.receipts c.in_ok-finished.finished.passes.acct.receipts
-    c.in_ok-finished.finished.passes.ticks.receipts c.close.result
-    (c.close.ensures c.args.run_time.turns c.in_ok-finished.ensures.auth c.in_ok-finished.ensures.acct))
+pub returns-clause-config : goal.returns-clause-config
+returns-clause-config g c =
+    subst (λ (config : Configuration). IfOk c.close.result (λ served. served.closed.config ≡ config))
+    (ap (λ (service : ServiceSeen). service.config) c.in_ok-service.ensures) c.close.ensures.config
+
+pub returns-clause-served : goal.returns-clause-served
+returns-clause-served g c =
+    let passes = c.in_ok-finished.finished.passes in
+    has_served c.in_ok-service.service.config c.args.run_time.turns
+    passes.auth.receipts passes.acct.receipts passes.ticks.receipts c.close.result
+    c.close.ensures.auth c.close.ensures.acct
+    c.close.ensures.config c.close.ensures.closed c.close.ensures.printed

@@ -1,8 +1,9 @@
-use Rattle.std.proofs.Common.{◌≡◌, arith, subst}
+use Rattle.std.proofs.Common.{◌≡◌, ap, arith, subst}
 use Rattle.std.proofs.lemmas.Result.{err_from_is_err_and}
 use Rattle.rsl_service.specs.Closed.{EndedSeen, IsClosedBy, IsFaultOf, IsRecordSettled, count_in, end_of}
 use Rattle.rsl_service.specs.Receipts.{receipts_of}
-use Rattle.rsl_service.proofs.Ends.{all_counted, closes, faults, same_total, seen_settled}
+use Rattle.rsl_record.specs.declared.close_fault.CloseFault.TheVariants.{NoMemory}
+use Rattle.rsl_service.proofs.Ends.{all_counted, all_given, closes, faults, refused, same_total, seen_settled}
 use Rattle.rsl_service.proofs.journals.EndedService.close.Goals as goal
 
 pub returns-in_err-settle-clause-err : goal.returns-in_err-settle-clause-err
@@ -14,6 +15,14 @@ returns-in_err-settle-clause-err g c =
     c.args.passes.items c.as_slice.result.now c.args.segments.items c.as_slice-2.result.now
     c.as_slice-3.result.now c.in_err-settle.field-0.0 c.as_slice.ensures.value c.as_slice-2.ensures.value
     c.as_slice-3.ensures.value c.in_err-settle.ensures.fault c.in_err-settle.ensures.missing c.in_err-settle.ensures.exact))
+
+pub returns-clause-config : goal.returns-clause-config
+returns-clause-config g c = ap (λ (ended : EndedSeen). ended.config) c.self.view_is
+
+pub returns-clause-opened : goal.returns-clause-opened
+returns-clause-opened g c =
+    all_given c.self.inside.opened c.self.inside.config c.args.passes.items c.as_slice.result.now _ c.as_slice.ensures.value
+    c.in_ok-settle.ensures.settled
 
 pub returns-clause-closed : goal.returns-clause-closed
 returns-clause-closed g c =
@@ -36,3 +45,15 @@ returns-clause-closed g c =
     (λ within. omega (arith, same_total ledgers.ledger2 (λ ledger. ledger.total) 2 config.settings.shards _ _ kept.8 kept.12 c.audit.ensures.ledger2 within, c.gather.ensures.amount2, kept.5))
     (λ within. omega (arith, same_total ledgers.ledger3 (λ ledger. ledger.total) 3 config.settings.shards _ _ kept.9 kept.13 c.audit.ensures.ledger3 within, c.gather.ensures.amount3, kept.6)))
     settled c.in_ok-segments.ensures.same c.in_ok-segments.ensures.by_shard)
+
+pub returns-in_err-segments-clause-err : goal.returns-in_err-segments-clause-err
+returns-in_err-segments-clause-err g c =
+    let passes = receipts_of c.args.passes.items in
+    let given = c.args.segments.items in
+    let ended : EndedSeen = record { config = c.self.inside.config; opened = c.self.inside.opened; present = c.self.inside.present.items } in
+    let settled : IsRecordSettled ended passes given =
+    seen_settled c.self.inside.config c.self.inside.opened c.args.passes.items c.as_slice.result.now given c.as_slice-2.result.now c.self.inside.present.items c.as_slice-3.result.now
+    c.as_slice.ensures.value c.as_slice-2.ensures.value c.as_slice-3.ensures.value c.in_ok-settle.ensures.settled in
+    let p = err_from_is_err_and c.from_residual-in_err-segments.result c.from_residual-in_err-segments.ensures.1 in
+    rw (p.1, p.2)
+    (subst (λ (ended : EndedSeen). IsFaultOf ended passes given NoMemory) c.self.view_is (refused ended passes given settled))
