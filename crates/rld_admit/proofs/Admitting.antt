@@ -1,13 +1,12 @@
 -- The books that an era begins with, shard by shard and account by account.
-use Rattle.std.proofs.Common.{◌≡◌, ℕ, zero, suc, ◌+◌, ◌*◌, ◌%◌, ◌/◌, ◌<◌, ◌≤◌, ◌⊎◌, inl, inr, List, [], ◌∷◌, ◌++◌, map, length, Option, Some, None, refl, ap, sym, subst, ◌∙◌, arith, append_assoc}
+use Rattle.std.proofs.Common.{◌≡◌, ℕ, suc, ◌+◌, ◌*◌, ◌%◌, ◌/◌, ◌<◌, ◌≤◌, ◌⊎◌, inl, inr, List, [], ◌∷◌, map, length, Option, Some, None, refl, ap, sym, ◌∙◌, arith}
 use Rattle.std.specs.Prelude.{slice_get}
 use Rattle.std.specs.List.{flat_map, range_with_len}
 use Rattle.std.specs.Option.{option_and_then, option_map, option_map_or}
 use Rattle.std.proofs.Math.Nat.{mod-lt}
 use Rattle.std.proofs.lemmas.Bool.{cases_lt}
-use Rattle.std.proofs.lemmas.List.{length-map, map-append}
 use Rattle.std.proofs.lemmas.List.Folds.{flat_map-map}
-use Rattle.std.proofs.lemmas.List.FromFn.{get_or-map-range_with_len, length-map-range_with_len, map-range_with_len_more}
+use Rattle.std.proofs.lemmas.List.FromFn.{get_or-map-range_with_len, length-map-range_with_len}
 use Rattle.std.proofs.lemmas.Option.{slice_get-get_or, slice_get-map, slice_get_past, slice_get_read, slice_get_within}
 use Rattle.std.proofs.lemmas.Simd.{map-map}
 use Rattle.rsl_accounts.specs.Configuration.{Configuration, account_number}
@@ -29,7 +28,7 @@ use Rattle.rld_spelling.specs.declared.era.EraAccount.{EraAccount}
 use Rattle.rld_admit.specs.Admitted.{AreAdmitted, admitted_book, next_number}
 use Rattle.rld_admit.specs.Begun.{begun_at, begun_book, begun_by_all, begun_in}
 use Rattle.rld_admit.specs.Carried.{Next, carried_book}
-use Rattle.rld_admit.specs.Numbers.{next_numbers, number_in}
+use Rattle.rld_admit.specs.Numbers.{next_numbers}
 use Rattle.rld_admit.proofs.Numbering.{same_account, same_numbers}
 
 -- ---- lists

@@ -1,25 +1,20 @@
 -- What goes on of a book.
-use Rattle.std.proofs.Common.{◌≡◌, ℕ, ◌+◌, ◌-◌, ◌<◌, ◌≤◌, max, List, [], ◌∷◌, ◌++◌, map, Bool, true, false, ◌&&◌, ◌||◌, ◌==◌, cond, Option, Some, None, All, refl, ap, sym, ◌∙◌, subst, arith, append-nil, append_assoc, length}
-use Rattle.std.specs.Prelude.{IsTrue, filter, find, is_some, nat_le, nat_lt, not}
+use Rattle.std.proofs.Common.{◌≡◌, ℕ, ◌-◌, ◌<◌, ◌≤◌, max, List, [], ◌∷◌, ◌++◌, map, Bool, true, false, ◌&&◌, ◌||◌, ◌==◌, cond, Option, Some, None, refl, ap, sym, ◌∙◌, subst, arith, append-nil, append_assoc}
+use Rattle.std.specs.Prelude.{filter, find, is_some, nat_lt, not}
 use Rattle.std.specs.List.{AllByRecursion, list_any}
 use Rattle.std.specs.Option.{option_map, unwrap_or}
 use Rattle.std.proofs.lemmas.Bool.{eq-eqb, eqb-true, false≢true, false_from_ne_true, le-leb, leb-true, leb-false}
-use Rattle.std.proofs.lemmas.List.{length-map, map-append}
+use Rattle.std.proofs.lemmas.List.{map-append}
 use Rattle.std.proofs.lemmas.List.Elements.{All-from_recursion}
 use Rattle.rsl_accounts.specs.Configuration.{same_octets}
-use Rattle.rsl_accounts.specs.Limits.{RulesFit}
 use Rattle.rsl_accounts.specs.declared.rules.Rules.{Rules}
-use Rattle.rsl_event.specs.declared.event.Act.TheVariants.{Ask}
-use Rattle.rsl_event.specs.declared.event.Decision.{Decision}
 use Rattle.rsl_event.specs.declared.event.Key.{Key}
 use Rattle.rsl_event.specs.declared.nas.Nas.{Nas}
-use Rattle.rsl_event.specs.declared.nas.NasName.{NasName}
 use Rattle.rsl_session.specs.Saved.{saved_book, saved_bundle, saved_link, saved_links}
-use Rattle.rsl_session.specs.declared.saved.SavedBook.{SavedBook}
 use Rattle.rsl_session.specs.declared.saved.SavedLink.{SavedLink}
 use Rattle.rsl_session.specs.Ask.{repeats}
-use Rattle.rsl_session.specs.Book.{Book, BookLink, bundles_in, places_in}
-use Rattle.rsl_session.specs.BookStep.{act_on, ask, come_to, step}
+use Rattle.rsl_session.specs.Book.{BookLink, bundles_in, places_in}
+use Rattle.rsl_session.specs.BookStep.{ask, come_to, step}
 use Rattle.rsl_session.specs.Closed.{closes}
 use Rattle.rsl_session.specs.Places.{places_of, each_bundle}
 use Rattle.rsl_session.specs.Same.{same_bundle, same_name, same_nas, same_session}
@@ -28,7 +23,7 @@ use Rattle.rsl_session.specs.declared.kept.KeptAsk.{KeptAsk}
 use Rattle.rsl_session.specs.declared.kept.KeptStop.{KeptStop}
 use Rattle.rsl_session.specs.declared.session.Session.{Session}
 use Rattle.rld_admit.specs.Carried.{Next, asks_on, carried_ask, carried_book, carried_bundle, carried_link, carried_nas, carried_session, carried_stop, finds_place, goes_on, links_on, placed, stops_on}
-use Rattle.rld_admit.specs.Laws.{ClosedSessionsStay, IsNext, IsOfClients, IsOneToOne, NobodyNewComesIn, NothingGoneIsLeft, PlacesStayWithinTheLimit, RepeatsOpenNothing, SessionsStay}
+use Rattle.rld_admit.specs.Laws.{ClosedSessionsStay, IsNext, IsOneToOne, NobodyNewComesIn, NothingGoneIsLeft, PlacesStayWithinTheLimit, RepeatsOpenNothing, SessionsStay}
 use Rattle.rld_admit.proofs.Places.{AreOf, fewer, front_fits, full, same_places}
 
 -- ---- access servers under other numbers
@@ -195,8 +190,8 @@ repeat_found next rules key now asks kept found goes =
 
 pub repeats_stay : RepeatsOpenNothing
 unfolding step come_to carried_book
-repeats_stay next rules book key nas moment kept found goes =
-    ap (λ (o : Option KeptAsk). ask rules (come_to rules (carried_book next rules book) moment) key nas o)
+repeats_stay next rules book key nas station moment kept found goes =
+    ap (λ (o : Option KeptAsk). ask rules (come_to rules (carried_book next rules book) moment) key nas station o)
     (repeat_found next rules key (max book.clock moment) book.asks kept found goes)
 
 any_on : {X : Type 0} (test other : X → Bool) (keep : X → Bool) (change : X → X) (xs : List X)

@@ -1,5 +1,5 @@
 -- The numbers that clients have in two eras.
-use Rattle.std.proofs.Common.{◌≡◌, ℕ, zero, suc, ◌+◌, ◌<◌, List, [], ◌∷◌, map, get_or, length, Bool, true, false, cond, ◌||◌, Option, Some, None, refl, ap, sym, ◌∙◌, arith, if◌then◌else◌}
+use Rattle.std.proofs.Common.{◌≡◌, ℕ, zero, suc, ◌+◌, List, [], ◌∷◌, map, get_or, Bool, true, false, ◌||◌, Option, Some, None, refl, ap, sym, ◌∙◌, if◌then◌else◌}
 use Rattle.std.specs.Prelude.{not, slice_get}
 use Rattle.std.specs.List.{list_any, position, position_or_len}
 use Rattle.std.specs.Option.{option_and_then, option_map}
@@ -10,13 +10,11 @@ use Rattle.std.proofs.lemmas.Option.{option_and_then_some, slice_get-get_or, sli
 use Rattle.std.proofs.lemmas.Slice.Eq.{bytes_eq-Decides}
 use Rattle.rsl_accounts.specs.Configuration.{Configuration, account_number, client_number, comes_twice, same_octets}
 use Rattle.rsl_accounts.specs.declared.client.Client.{Client}
-use Rattle.rsl_accounts.specs.declared.entry.Entry.{Entry}
 use Rattle.rld_spelling.specs.Eras.{EraSeen}
 use Rattle.rld_spelling.specs.Tables.{account_row, client_row, table_of}
 use Rattle.rld_spelling.specs.declared.era.EraAccount.{EraAccount}
 use Rattle.rld_spelling.specs.declared.era.EraClient.{EraClient}
 use Rattle.rld_admit.specs.Admitted.{account_with, addresses_of, client_with, next_number}
-use Rattle.rld_admit.specs.Carried.{Next}
 use Rattle.rld_admit.specs.Laws.{ClientsKeepTheirAddress, IsSameClient}
 use Rattle.rld_admit.specs.Numbers.{next_numbers, number_in}
 

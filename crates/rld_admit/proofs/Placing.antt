@@ -1,10 +1,10 @@
 -- What the code makes of links, asks and stops, one after another.
-use Rattle.std.proofs.Common.{◌≡◌, ℕ, zero, suc, ◌+◌, ◌-◌, ◌<◌, ◌≤◌, List, [], ◌∷◌, ◌++◌, take, map, get_or, Bool, true, false, cond, Option, Some, None, refl, ap, sym, ◌∙◌, subst, arith, append-nil, append_assoc, length}
-use Rattle.std.specs.Prelude.{count_by, filter, is_some, nat_le, slice_get}
+use Rattle.std.proofs.Common.{◌≡◌, ℕ, ◌+◌, ◌-◌, ◌<◌, ◌≤◌, List, [], ◌∷◌, ◌++◌, take, map, get_or, Bool, true, false, cond, Option, Some, None, refl, ap, sym, ◌∙◌, arith, append-nil, length}
+use Rattle.std.specs.Prelude.{count_by, filter, is_some, slice_get}
 use Rattle.std.specs.Int.{div_ceil}
 use Rattle.std.specs.Option.{option_map, unwrap_or}
 use Rattle.std.proofs.lemmas.Bool.{le-leb, lt-leb}
-use Rattle.std.proofs.lemmas.List.{length-map, map-append, map_push, take_all, take_more}
+use Rattle.std.proofs.lemmas.List.{map_push, take_all, take_more}
 use Rattle.std.proofs.lemmas.List.Sums.{sum_by-append, sum_by-cons}
 use Rattle.std.proofs.lemmas.Option.{get_or_from_slice_get, slice_get_within}
 use Rattle.rsl_accounts.specs.declared.rules.Rules.{Rules}
@@ -227,15 +227,15 @@ pub nas_on : (next : Next) (nas made : Nas) (client : ℕ) → next nas.client �
 nas_on next nas made client is are = are ∙ ap (λ (o : Option ℕ). record { client = unwrap_or o nas.client; name = nas.name }) (sym is)
 
 pub link_made : (next : Next) (link made : SavedLink) (client : ℕ) → next link.nas.client ≡ Some client → made.nas ≡ record { client = client; name = link.nas.name }
-    → made.holder ≡ link.holder → made.bundle ≡ link.bundle → made.touched ≡ link.touched → saved_link made ≡ carried_link next (saved_link link)
+    → made.holder ≡ link.holder → made.bundle ≡ link.bundle → made.station ≡ link.station → made.opened ≡ link.opened → made.touched ≡ link.touched → saved_link made ≡ carried_link next (saved_link link)
 unfolding saved_link
-link_made next link made client is nas holder bundle touched =
+link_made next link made client is nas holder bundle station opened touched =
     let server : made.nas ≡ carried_nas next link.nas = nas_on next link.nas made.nas client is nas in
     let held : saved_holder made.nas made.holder ≡ carried_holder next (saved_holder link.nas link.holder) =
     ap (λ (n : Nas). saved_holder n made.holder) server ∙ ap (saved_holder (carried_nas next link.nas)) holder ∙ holder_on next link.nas link.holder in
     let bundled : saved_bundle made.nas made.bundle ≡ option_map (carried_bundle next) (saved_bundle link.nas link.bundle) =
     ap (λ (n : Nas). saved_bundle n made.bundle) server ∙ ap (saved_bundle (carried_nas next link.nas)) bundle ∙ bundle_on next link.nas link.bundle in
-    (λ i. record { nas = server i; holder = held i; bundle = bundled i; touched = touched i })
+    (λ i. record { nas = server i; holder = held i; bundle = bundled i; station = station i; opened = opened i; touched = touched i })
 
 pub book_made : (next : Next) (rules : Rules) (kept made : SavedBook) → made.clock ≡ kept.clock → saved_links made.links.items ≡ placed rules [] (links_on next (saved_links kept.links.items))
     → made.accepts ≡ kept.accepts → made.asks.items ≡ asks_on next kept.asks.items → made.stops.items ≡ stops_on next kept.stops.items → made.over ≡ kept.over

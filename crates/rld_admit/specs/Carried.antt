@@ -3,8 +3,8 @@
 -- A client goes on if its address is one of the next era too, under the number that the address has
 -- there: `next` gives that number, and none for a client that is gone. What a book has of a client
 -- that is gone is left out. The other links go on, in the order in which they opened, if they find
--- a place under the account's new rules. Nothing else changes: not the clock, the last touches, the
--- accept numbers, nor the decisions.
+-- a place under the account's new rules. Nothing else changes: not the clock, the stations,
+-- openings and last touches of links, the accept numbers, nor the decisions.
 use Rattle.std.specs.Prelude.{ℕ, List, [], ◌∷◌, ◌++◌, map, filter, Bool, nat_le, is_some, if◌then◌else◌, Option}
 use Rattle.std.specs.Option.{option_map, unwrap_or}
 use Rattle.rsl_accounts.specs.declared.rules.Rules.{Rules}
@@ -39,12 +39,14 @@ abbrev pub carried_holder : Next → Holder → Holder
 carried_holder next (Reserved number) = Reserved number
 carried_holder next (Bound session) = Bound (carried_session next session)
 
--- a link, with its last touch
+-- a link, with its station, its opening and its last touch
 abbrev pub carried_link : Next → BookLink → BookLink
 carried_link next link = record {
   nas = carried_nas next link.nas;
   holder = carried_holder next link.holder;
   bundle = option_map (carried_bundle next) link.bundle;
+  station = link.station;
+  opened = link.opened;
   touched = link.touched;
 }
 

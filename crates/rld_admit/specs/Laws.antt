@@ -2,7 +2,7 @@
 --
 -- They speak of a book that was saved, as any book of a server can be: its links name their
 -- sessions and bundles at their own access servers.
-use Rattle.std.specs.Prelude.{◌≡◌, ◌≢◌, ℕ, ◌≤◌, max, All, IsTrue, find, false, slice_get, Some, None}
+use Rattle.std.specs.Prelude.{◌≡◌, ℕ, ◌≤◌, max, All, IsTrue, List, find, false, slice_get, Option, Some, None}
 use Rattle.std.specs.List.{list_any}
 use Rattle.rsl_accounts.specs.Configuration.{comes_twice}
 use Rattle.rsl_accounts.specs.Limits.{RulesFit}
@@ -23,7 +23,7 @@ use Rattle.rsl_session.specs.declared.session.Session.{Session}
 use Rattle.rld_spelling.specs.Eras.{EraSeen}
 use Rattle.rld_spelling.specs.declared.era.EraClient.{EraClient}
 use Rattle.rld_admit.specs.Admitted.{addresses_of, next_number}
-use Rattle.rld_admit.specs.Carried.{Next, asks_on, carried_book, carried_session, goes_on, links_on, stops_on}
+use Rattle.rld_admit.specs.Carried.{Next, carried_book, carried_session, goes_on, links_on}
 
 -- no two clients become one
 abbrev pub IsOneToOne : Next → Type 0
@@ -33,7 +33,8 @@ IsOneToOne next = (one other number : ℕ) → next one ≡ Some number → next
 -- ---- what an account that stays with its rules keeps
 
 -- Of the links at clients that go on none is lost, if their places are within the limit of the
--- rules: each keeps its position among the others, its session and its last touch.
+-- rules: each keeps its position among the others, its session, its station, its opening and its
+-- last touch.
 abbrev pub SessionsStay : Type 0
 SessionsStay =
     (next : Next) (rules : Rules) (kept : SavedBook) → RulesFit rules → IsOneToOne next
@@ -52,10 +53,12 @@ ClosedSessionsStay =
 -- nothing.
 abbrev pub RepeatsOpenNothing : Type 0
 RepeatsOpenNothing =
-    (next : Next) (rules : Rules) (book : Book) (key : Key) (nas : Nas) (moment : ℕ) (kept : KeptAsk)
+    (next : Next) (rules : Rules) (book : Book) (key : Key) (nas : Nas) (station : Option (List ℕ))
+    (moment : ℕ) (kept : KeptAsk)
     → find (repeats rules key (max book.clock moment)) book.asks ≡ Some kept
     → IsTrue (goes_on next kept.nas)
-    → step rules (carried_book next rules book) (record { moment = moment; act = Ask key nas })
+    → step rules (carried_book next rules book)
+    (record { moment = moment; act = Ask key nas station })
     ≡ (come_to rules (carried_book next rules book) moment, kept.decision)
 
 -- ---- what no account has
@@ -66,7 +69,7 @@ PlacesStayWithinTheLimit =
     (next : Next) (rules : Rules) (book : Book)
     → places_in rules (carried_book next rules book) ≤ rules.places
 
--- If a link of a client that goes on finds no place, every place is held: a new login finds none.
+-- If a link of a client that goes on finds no place, every place is held: no other place is free.
 abbrev pub NobodyNewComesIn : Type 0
 NobodyNewComesIn =
     (next : Next) (rules : Rules) (book : Book) → RulesFit rules

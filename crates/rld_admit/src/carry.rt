@@ -53,6 +53,8 @@ fn link_of(alloc: Global, client: u32, link: &SavedLink) -> Result<SavedLink, No
         nas: nas_of(alloc, client, &link.nas)?,
         holder: holder_of(alloc, &link.holder)?,
         bundle: Octets::try_copy_option(alloc, &link.bundle)?,
+        station: Octets::try_copy_option(alloc, &link.station)?,
+        opened: link.opened,
         touched: link.touched,
     })
 }

@@ -66,6 +66,8 @@ fn settings_of(shards: u64, rules: &Rules) -> Settings {
         closed: rules.closed,
         keep: rules.keep,
         interim: None,
+        station: false,
+        delay_time: false,
     }
 }
 
@@ -109,6 +111,7 @@ fn account_of(alloc: Global, row: &EraAccount) -> Result<Entry, TableFault> {
         name: Text::from_str(alloc, name)?,
         own_live: Some(row.rules.live),
         own_grace: Some(row.rules.grace),
+        own_station: None,
         interim: None,
         disabled: false,
         port_limit: true,

@@ -53,22 +53,26 @@ all_same P f (x ∷ xs) same all = ap (λ y. y ∷ map f xs) (same x all.0) ∙ 
 
 -- ---- the laws
 
+abbrev is_link_up_to : ℕ → BookLink → Type 0
+is_link_up_to now link = (link.opened ≤ now) × (link.touched ≤ now)
+
 pub cut_is_up_to : CutBooksAreUpTo
 unfolding cut_book
 cut_is_up_to now book = record {
   clock = earlier_within now book.clock;
-  links = All-from_recursion (λ (link : BookLink). link.touched ≤ now) (map (cut_link now) book.links)
-      (all_mapped (λ (link : BookLink). link.touched ≤ now) (cut_link now) book.links (λ link. earlier_within now link.touched));
+  links = All-from_recursion (is_link_up_to now) (map (cut_link now) book.links)
+      (all_mapped (is_link_up_to now) (cut_link now) book.links (λ link. (earlier_within now link.opened, earlier_within now link.touched)));
   asks = All-from_recursion (λ (ask : KeptAsk). ask.at ≤ now) (map (cut_ask now) book.asks)
       (all_mapped (λ (ask : KeptAsk). ask.at ≤ now) (cut_ask now) book.asks (λ ask. earlier_within now ask.at));
   stops = All-from_recursion (λ (stop : KeptStop). stop.at ≤ now) (map (cut_stop now) book.stops)
       (all_mapped (λ (stop : KeptStop). stop.at ≤ now) (cut_stop now) book.stops (λ stop. earlier_within now stop.at));
 }
 
-same_link : (now : ℕ) (link : BookLink) → link.touched ≤ now → cut_link now link ≡ link
+same_link : (now : ℕ) (link : BookLink) → is_link_up_to now link → cut_link now link ≡ link
 same_link now link within =
-    let touched : earlier now link.touched ≡ link.touched = earlier_same now link.touched within in
-    (λ i. record { nas = link.nas; holder = link.holder; bundle = link.bundle; touched = touched i })
+    let opened : earlier now link.opened ≡ link.opened = earlier_same now link.opened within.0 in
+    let touched : earlier now link.touched ≡ link.touched = earlier_same now link.touched within.1 in
+    (λ i. record { nas = link.nas; holder = link.holder; bundle = link.bundle; station = link.station; opened = opened i; touched = touched i })
 
 same_ask : (now : ℕ) (ask : KeptAsk) → ask.at ≤ now → cut_ask now ask ≡ ask
 same_ask now ask within =
@@ -85,7 +89,7 @@ unfolding cut_book
 up_to_stays now book is =
     let clock : earlier now book.clock ≡ book.clock = earlier_same now book.clock is.clock in
     let links : map (cut_link now) book.links ≡ book.links =
-    all_same (λ (link : BookLink). link.touched ≤ now) (cut_link now) book.links (same_link now) (recursion_from_All (λ (link : BookLink). link.touched ≤ now) book.links is.links) in
+    all_same (is_link_up_to now) (cut_link now) book.links (same_link now) (recursion_from_All (is_link_up_to now) book.links is.links) in
     let asks : map (cut_ask now) book.asks ≡ book.asks =
     all_same (λ (ask : KeptAsk). ask.at ≤ now) (cut_ask now) book.asks (same_ask now) (recursion_from_All (λ (ask : KeptAsk). ask.at ≤ now) book.asks is.asks) in
     let stops : map (cut_stop now) book.stops ≡ book.stops =
@@ -158,10 +162,13 @@ one_link now xs ys i x new within so_far read is =
     map-set saved_link ys i new ∙ ap (set (map saved_link ys) i) (is ∙ ap (λ (l : SavedLink). cut_link now (saved_link l)) (sym read))
     ∙ map_over_more (cut_link now) (map saved_link xs) (map saved_link ys) i (saved_link x) long so_far here
 
-pub cut_saved_link : (now : ℕ) (link new : SavedLink) (touched : ℕ) → touched ≡ earlier now link.touched → new ≡ record link { touched = touched } → saved_link new ≡ cut_link now (saved_link link)
+pub cut_saved_link : (now : ℕ) (link new : SavedLink) (opened touched : ℕ) → opened ≡ earlier now link.opened → touched ≡ earlier now link.touched
+    → new ≡ record link { opened = opened; touched = touched } → saved_link new ≡ cut_link now (saved_link link)
 unfolding saved_link
-cut_saved_link now link new touched is made =
-    ap saved_link made ∙ (λ i. record { nas = (saved_link link).nas; holder = (saved_link link).holder; bundle = (saved_link link).bundle; touched = is i })
+cut_saved_link now link new opened touched opened_is touched_is made =
+    let kept : BookLink = saved_link link in
+    ap saved_link made
+    ∙ (λ i. record { nas = kept.nas; holder = kept.holder; bundle = kept.bundle; station = kept.station; opened = opened_is i; touched = touched_is i })
 
 -- an ask more is cut
 pub one_ask : (now : ℕ) (xs ys : List KeptAsk) (i : ℕ) (x : KeptAsk) (at : ℕ) → i < length xs → ys ≡ map (cut_ask now) (take i xs) ++ drop i xs
@@ -203,13 +210,13 @@ counted_mapped g f xs = sym (sum-map g (map f xs)) ∙ ap sum (map-map g f xs) �
 
 pub late_in_saved : (now : ℕ) (kept : SavedBook)
     → late_in now (saved_book kept)
-    ≡ ((late now kept.clock + sum_by (λ (link : SavedLink). late now link.touched) kept.links.items)
+    ≡ ((late now kept.clock + sum_by (λ (link : SavedLink). late now link.opened + late now link.touched) kept.links.items)
     + sum_by (λ (ask : KeptAsk). late now ask.at) kept.asks.items)
     + sum_by (λ (stop : KeptStop). late now stop.at) kept.stops.items
 unfolding late_in saved_book saved_links saved_link
 late_in_saved now kept =
     ap (λ (n : ℕ). ((late now kept.clock + n) + sum_by (λ (ask : KeptAsk). late now ask.at) kept.asks.items) + sum_by (λ (stop : KeptStop). late now stop.at) kept.stops.items)
-    (counted_mapped (λ (link : BookLink). late now link.touched) saved_link kept.links.items)
+    (counted_mapped (λ (link : BookLink). late now link.opened + late now link.touched) saved_link kept.links.items)
 
 -- with those of a book more
 pub late_more : (now : ℕ) (kept : List SavedBook) (i : ℕ) (x : SavedBook) → i < length kept → x ≡ get_or kept i x

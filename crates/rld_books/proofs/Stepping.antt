@@ -1,11 +1,10 @@
 -- What a move makes of the books of a server, shard by shard.
-use Rattle.std.proofs.Common.{◌≡◌, ◌≢◌, ℕ, zero, suc, ◌+◌, ◌%◌, ◌<◌, ◌≤◌, ◌==◌, Bool, true, false, cond, List, [], ◌∷◌, ◌++◌, length, get_or, set, map, take, drop, Option, Some, None, refl, sym, ap, subst, ◌∙◌, arith, append-nil}
+use Rattle.std.proofs.Common.{◌≡◌, ℕ, zero, suc, ◌+◌, ◌%◌, ◌<◌, ◌≤◌, ◌==◌, Bool, true, false, cond, List, [], ◌∷◌, ◌++◌, length, get_or, set, map, take, drop, Option, Some, None, refl, sym, ap, subst, ◌∙◌, arith, append-nil}
 use Rattle.std.specs.Prelude.{slice_get}
-use Rattle.std.specs.List.{range_with_len}
 use Rattle.std.specs.Option.{option_map, option_map_or}
 use Rattle.std.proofs.Math.Nat.{add-mod_right, mod-eq_of_lt}
 use Rattle.std.proofs.lemmas.Bool.{eqb-true}
-use Rattle.std.proofs.lemmas.List.{drop_all, take_all, get_or_default, length-map, length-set}
+use Rattle.std.proofs.lemmas.List.{drop_all, take_all, get_or_default, length-map}
 use Rattle.std.proofs.lemmas.List.Edits.{map_over_more}
 use Rattle.std.proofs.lemmas.List.FromFn.{get_or-map-range_with_len, length-map-range_with_len}
 use Rattle.std.proofs.lemmas.Option.{slice_get-get_or, slice_get-map, slice_get_within, get_or_from_slice_get}
@@ -15,7 +14,7 @@ use Rattle.rsl_event.specs.declared.event.Decision.{Decision}
 use Rattle.rsl_event.specs.declared.event.Decision.TheVariants.{Done}
 use Rattle.rsl_event.specs.declared.event.Event.{Event}
 use Rattle.rsl_event.specs.declared.meaning.Note.{Note}
-use Rattle.rsl_shard.specs.Moves.{IsOwn, event_to}
+use Rattle.rsl_shard.specs.Moves.{IsOwn}
 use Rattle.rsl_shard.specs.Restep.{BooksSeen, books_after, decision_by, moved_from, new_books_seen, step_by}
 use Rattle.rsl_shard.specs.declared.moved.Move.{Move}
 use Rattle.rsl_shard.specs.declared.moved.Move.TheVariants.{Own, Sweep, Tick, Stray}
@@ -168,7 +167,7 @@ still_taken server moved (Own account event) own = record {
       ∙ ap (option_map (shard_after moved)) own.there;
   own = own.own;
 }
-still_taken server moved (Sweep moment nas) taken = taken
+still_taken server moved (Sweep moment nas delay) taken = taken
 still_taken server moved (Tick moment) taken = taken
 still_taken server moved (Stray moment note) taken = taken
 

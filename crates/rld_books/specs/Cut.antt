@@ -1,5 +1,5 @@
 -- Books cut to a moment: each later moment in them becomes that moment. Nothing else changes: not
--- the links, their order, sessions and accept numbers, nor what is kept.
+-- the links, their order, sessions, stations and accept numbers, nor what is kept.
 use Rattle.std.specs.Prelude.{ℕ, ◌+◌, nat_lt, List, map, sum_by, if◌then◌else◌}
 use Rattle.rsl_book.specs.RuledBook.{RuledBook}
 use Rattle.rsl_session.specs.Book.{Book, BookLink}
@@ -17,6 +17,8 @@ cut_link now link = record {
   nas = link.nas;
   holder = link.holder;
   bundle = link.bundle;
+  station = link.station;
+  opened = earlier now link.opened;
   touched = earlier now link.touched;
 }
 
@@ -36,7 +38,8 @@ cut_stop now stop = record {
   swept = stop.swept;
 }
 
--- the clock, the last touch of each link, and the moments of the kept asks and stops
+-- the clock, the opening and the last touch of each link, and the moments of the kept asks and
+-- stops
 unfoldable pub cut_book : (now : ℕ) → Book → Book
 cut_book now book = record {
   clock = earlier now book.clock;
@@ -67,7 +70,7 @@ late now moment = if nat_lt now moment then 1 else 0
 unfoldable pub late_in : (now : ℕ) → Book → ℕ
 late_in now book =
     late now book.clock
-    + sum_by (λ (link : BookLink). late now link.touched) book.links
+    + sum_by (λ (link : BookLink). late now link.opened + late now link.touched) book.links
     + sum_by (λ (ask : KeptAsk). late now ask.at) book.asks
     + sum_by (λ (stop : KeptStop). late now stop.at) book.stops
 

@@ -10,7 +10,7 @@ use Rattle.rld_books.specs.Cut.{cut_book}
 -- no moment of a book is later than this one
 pub record IsUpTo (now : ℕ) (book : Book) : Type 0 where
   pub clock : book.clock ≤ now
-  pub links : All (λ (link : BookLink). link.touched ≤ now) book.links
+  pub links : All (λ (link : BookLink). (link.opened ≤ now) × (link.touched ≤ now)) book.links
   pub asks : All (λ (ask : KeptAsk). ask.at ≤ now) book.asks
   pub stops : All (λ (stop : KeptStop). stop.at ≤ now) book.stops
 

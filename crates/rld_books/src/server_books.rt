@@ -60,11 +60,11 @@ fn new_shards(alloc: Global, config: &Config) -> Result<Vec<Books>, NoMemory>
 
 /// Sweeps the books of each shard.
 #[tactic(auto, using(crate::proofs::Stepping::each_steps))]
-fn sweep_each(shards: &mut [Books], moment: u64, nas: &Nas)
-    ensures { shards.new ≡ map (shard_after (moves.Sweep moment nas.now)) shards.old }
+fn sweep_each(shards: &mut [Books], moment: u64, nas: &Nas, delay: u64)
+    ensures { shards.new ≡ map (shard_after (moves.Sweep moment nas.now delay)) shards.old }
 {
     for index in 0..shards.len() {
-        shards[index].sweep(moment, nas);
+        shards[index].sweep(moment, nas, delay);
     }
 }
 
@@ -128,7 +128,7 @@ impl ServerBooks {
     {
         match moved {
             Move::Own { account, event } => self.own(account, event),
-            Move::Sweep { moment, nas } => self.sweep(moment, &nas),
+            Move::Sweep { moment, nas, delay } => self.sweep(moment, &nas, delay),
             Move::Tick { moment } => self.tick(moment),
             Move::Stray { .. } => Decision::Done,
         }
@@ -144,12 +144,12 @@ impl ServerBooks {
         self.shards[index].own(account, event)
     }
 
-    /// Sweeps each book.
-    fn sweep(&mut self, moment: u64, nas: &Nas) -> Decision
-        ensures books { self.new ≡ server_after self.old (moves.Sweep moment nas.now) }
+    /// Sweeps each book of what came `delay` seconds ago or earlier.
+    fn sweep(&mut self, moment: u64, nas: &Nas, delay: u64) -> Decision
+        ensures books { self.new ≡ server_after self.old (moves.Sweep moment nas.now delay) }
         ensures decision { result ≡ done }
     {
-        sweep_each(&mut self.shards, moment, nas);
+        sweep_each(&mut self.shards, moment, nas, delay);
         Decision::Done
     }
 

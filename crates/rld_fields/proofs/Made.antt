@@ -133,12 +133,12 @@ tag_case first tag x y z e =
 
 -- what was read as one case is spelled so
 pub case_spelled : {A B : Type 0} (field : Field B) (a : Field A) → IsRead a → (make : A → B) (tag : ℕ)
-    → ((x : A) → field.spell (make x) ≡ tag ∷ a.spell x) → ((x : A) → a.Fits x → field.Fits (make x))
+    → ((x : A) → a.Fits x → field.spell (make x) ≡ tag ∷ a.spell x) → ((x : A) → a.Fits x → field.Fits (make x))
     → (first : ℕ) (octets : List ℕ) (y : B) (rest : List ℕ) → first ≡ tag → AreOctets (first ∷ octets) → made_of make (a.read octets) ≡ Ok (y, rest)
     → (first ∷ octets ≡ field.spell y ++ rest) × field.Fits y
 case_spelled {A = A} {B = B} field a ra make tag spells fits first octets y rest same are e =
     let p = made_ok make (a.read octets) (y, rest) e in
     let s = ra.spelled octets p.0.0 p.0.1 (octets_rest first octets are) p.1 in
     let whole : first ∷ octets ≡ field.spell (make p.0.0) ++ p.0.1 =
-    ap (λ (n : ℕ). n ∷ octets) same ∙ ap (λ (l : List ℕ). tag ∷ l) s.0 ∙ ap (λ (l : List ℕ). l ++ p.0.1) (sym (spells p.0.0)) in
+    ap (λ (n : ℕ). n ∷ octets) same ∙ ap (λ (l : List ℕ). tag ∷ l) s.0 ∙ ap (λ (l : List ℕ). l ++ p.0.1) (sym (spells p.0.0 s.1)) in
     subst (λ (z : B × List ℕ). (first ∷ octets ≡ field.spell z.0 ++ z.1) × field.Fits z.0) (sym p.2) (whole, fits p.0.0 s.1)

@@ -23,11 +23,11 @@ name_spelled (tag ∷ octets) x rest are e =
     let none : Reading NasName = Ok (Unnamed, octets) in
     let unknown : Reading NasName = fault_at UnknownTag (tag ∷ octets) in
     elim (tag_case tag 0 a (cond (eqb tag 1) b (cond (eqb tag 2) none unknown)) (Ok (x, rest)) e) [
-      | inl p ↦ case_spelled name_field short short_read identifier 0 (λ n. refl) (λ n fits. fits) tag octets x rest p.0 are p.1
+      | inl p ↦ case_spelled name_field short short_read identifier 0 (λ n fits. refl) (λ n fits. fits) tag octets x rest p.0 are p.1
       | inr p ↦ elim (tag_case tag 1 b (cond (eqb tag 2) none unknown) (Ok (x, rest)) p) [
-        | inl q ↦ case_spelled name_field short short_read address 1 (λ n. refl) (λ n fits. fits) tag octets x rest q.0 are q.1
+        | inl q ↦ case_spelled name_field short short_read address 1 (λ n fits. refl) (λ n fits. fits) tag octets x rest q.0 are q.1
         | inr q ↦ elim (tag_case tag 2 none unknown (Ok (x, rest)) q) [
-          | inl s ↦ case_spelled name_field nothing nothing_read (λ u. Unnamed) 2 (λ u. refl) (λ u fits. tt) tag octets x rest s.0 are s.1
+          | inl s ↦ case_spelled name_field nothing nothing_read (λ u. Unnamed) 2 (λ u fits. refl) (λ u fits. tt) tag octets x rest s.0 are s.1
           | inr s ↦ absurd cc
         ]
       ]

@@ -1,8 +1,8 @@
 -- Books as octets: all that the book of an account holds.
-use Rattle.std.specs.Prelude.{ℕ, List, [], ◌∷◌, ◌++◌, length, Bool, Option, Ok, nat_eq, if◌then◌else◌, map}
+use Rattle.std.specs.Prelude.{ℕ, List, [], ◌∷◌, ◌++◌, length, Bool, ◌||◌, Option, None, IfSome, is_some, Ok, nat_eq, nat_lt, if◌then◌else◌, map}
 use Rattle.std.specs.List.{flat_map}
-use Rattle.rld_fields.specs.declared.fault.Cause.TheVariants.{CutShort, UnknownTag}
-use Rattle.rld_fields.specs.Field.{Field, Reading, fault_at, made_of, both, seen_as, optional, option_spelled, short, short_at, flag, flag_spelled}
+use Rattle.rld_fields.specs.declared.fault.Cause.TheVariants.{CutShort, OutOfRange, UnknownTag}
+use Rattle.rld_fields.specs.Field.{Field, Reading, fault_at, made_of, both, checked, seen_as, optional, option_spelled, short, short_at, flag, flag_spelled}
 use Rattle.rld_fields.specs.Lists.{list_of}
 use Rattle.rld_fields.specs.Numbers.{number, number_at, number_octets}
 use Rattle.rsl_event.specs.declared.event.Decision.{Decision}
@@ -15,6 +15,7 @@ use Rattle.rsl_session.specs.declared.saved.SavedBook.{SavedBook}
 use Rattle.rsl_session.specs.declared.saved.SavedHolder.{SavedHolder}
 use Rattle.rsl_session.specs.declared.saved.SavedHolder.TheVariants as holders
 use Rattle.rsl_session.specs.declared.saved.SavedLink.{SavedLink}
+use Rattle.rld_spelling.specs.declared.book.Held.{Held}
 use Rattle.rld_spelling.specs.Requests.{key_field, key_octets}
 use Rattle.rld_spelling.specs.Servers.{nas_field, nas_octets}
 
@@ -43,53 +44,106 @@ DecisionFits _ = Unit {0}
 abbrev pub decision_field : Field Decision
 decision_field = record { spell = decision_octets; read = decision_at; Fits = DecisionFits }
 
--- ---- what holds a link
-
-unfoldable pub holder_octets : SavedHolder → List ℕ
-holder_octets (holders.Reserved number) = 0 ∷ number_octets number
-holder_octets (holders.Bound session) = 1 ∷ short.spell session
-
-abbrev pub holder_behind : (tag : ℕ) → List ℕ → Reading SavedHolder
-holder_behind tag rest =
-    if nat_eq tag 0 then made_of (λ number. holders.Reserved number) (number_at rest)
-    else (if nat_eq tag 1 then made_of (λ session. holders.Bound session) (short_at rest)
-    else fault_at UnknownTag (tag ∷ rest))
-
-unfoldable pub holder_at : List ℕ → Reading SavedHolder
-holder_at [] = fault_at CutShort []
-holder_at (tag ∷ rest) = holder_behind tag rest
+-- ---- what holds a link, when it opened, and its station
+--
+-- The tags 0 and 1 are those of format 1, which did not know when a link opened, nor its station. A
+-- link of which that is still unknown keeps them.
 
 abbrev pub HolderFits : SavedHolder → Type 0
 HolderFits (holders.Reserved n) = number.Fits n
 HolderFits (holders.Bound session) = short.Fits session
 
-abbrev pub holder_field : Field SavedHolder
-holder_field = record { spell = holder_octets; read = holder_at; Fits = HolderFits }
+-- the clock when a link opened, and its station, of which one at least is known
+abbrev pub Since : Type 0
+Since = ℕ × Option (List ℕ)
+
+abbrev pub is_known : Since → Bool
+is_known since = nat_lt 0 since.0 || is_some since.1
+
+abbrev pub since_field : Field Since
+since_field = checked OutOfRange is_known (both number (optional short))
+
+unfoldable pub since_at : List ℕ → Reading Since
+since_at octets = since_field.read octets
+
+abbrev pub with_since : (front : List ℕ) → Since → List ℕ
+with_since front since = front ++ (number_octets since.0 ++ option_spelled short since.1)
+
+abbrev pub holder_octets : SavedHolder → Since → List ℕ
+holder_octets (holders.Reserved number) since =
+    if is_known since then 2 ∷ with_since (number_octets number) since
+    else 0 ∷ number_octets number
+holder_octets (holders.Bound session) since =
+    if is_known since then 3 ∷ with_since (short.spell session) since
+    else 1 ∷ short.spell session
+
+unfoldable pub held_octets : Held → List ℕ
+held_octets held = holder_octets held.holder (held.opened, held.station)
+
+abbrev pub held_since : SavedHolder → Since → Held
+held_since holder since = record { holder = holder; opened = since.0; station = since.1 }
+
+abbrev pub reserved_by : ℕ → Held
+reserved_by number = held_since (holders.Reserved number) (0, None)
+
+abbrev pub bound_to : List ℕ → Held
+bound_to session = held_since (holders.Bound session) (0, None)
+
+abbrev pub reserved_since : ℕ × Since → Held
+reserved_since parts = held_since (holders.Reserved parts.0) parts.1
+
+abbrev pub bound_since : List ℕ × Since → Held
+bound_since parts = held_since (holders.Bound parts.0) parts.1
+
+abbrev pub held_behind : (tag : ℕ) → List ℕ → Reading Held
+held_behind tag rest =
+    if nat_eq tag 0 then made_of reserved_by (number_at rest)
+    else (if nat_eq tag 1 then made_of bound_to (short_at rest)
+    else (if nat_eq tag 2 then made_of reserved_since ((both number since_field).read rest)
+    else (if nat_eq tag 3 then made_of bound_since ((both short since_field).read rest)
+    else fault_at UnknownTag (tag ∷ rest))))
+
+unfoldable pub held_at : List ℕ → Reading Held
+held_at [] = fault_at CutShort []
+held_at (tag ∷ rest) = held_behind tag rest
+
+abbrev pub HeldFits : Held → Type 0
+HeldFits held =
+    HolderFits held.holder × (number.Fits held.opened × IfSome held.station short.Fits)
+
+abbrev pub held_field : Field Held
+held_field = record { spell = held_octets; read = held_at; Fits = HeldFits }
 
 -- ---- links: the access server, what holds it, its bundle, and the clock at its last touch
 
+abbrev pub held_of : SavedLink → Held
+held_of link = held_since link.holder (link.opened, link.station)
+
 abbrev pub LinkParts : Type 0
-LinkParts = Nas × (SavedHolder × (Option (List ℕ) × ℕ))
+LinkParts = Nas × (Held × (Option (List ℕ) × ℕ))
 
 abbrev pub link_of : LinkParts → SavedLink
 link_of parts = record {
   nas = parts.0;
-  holder = parts.1.0;
+  holder = parts.1.0.holder;
   bundle = parts.1.1.0;
+  station = parts.1.0.station;
+  opened = parts.1.0.opened;
   touched = parts.1.1.1;
 }
 
 abbrev pub link_parts : SavedLink → LinkParts
-link_parts link = (link.nas, (link.holder, (link.bundle, link.touched)))
+link_parts link = (link.nas, (held_of link, (link.bundle, link.touched)))
 
 unfoldable pub link_octets : SavedLink → List ℕ
 link_octets link =
-    nas_octets link.nas ++ (holder_octets link.holder
+    nas_octets link.nas ++ (held_octets (held_of link)
     ++ (option_spelled short link.bundle ++ number_octets link.touched))
 
 abbrev pub link_as : (clients : ℕ) → Field SavedLink
 link_as clients =
-    seen_as link_of link_parts (both (nas_field clients) (both holder_field (both (optional short) number)))
+    seen_as link_of link_parts
+    (both (nas_field clients) (both held_field (both (optional short) number)))
 
 unfoldable pub link_at : (clients : ℕ) → List ℕ → Reading SavedLink
 link_at clients octets = (link_as clients).read octets

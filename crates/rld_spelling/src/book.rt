@@ -1,12 +1,14 @@
 //! Books: all that the book of an account holds.
 
-ghost use Rattle.std.specs.Prelude.{◌≡◌, ◌++◌, ◌↔◌, List, IsTrue, IfOk, OnOk, IsErrOf, Ok, All, length};
+ghost use Rattle.std.specs.Prelude.{◌≡◌, ◌++◌, ◌↔◌, List, IsTrue, IfOk, IfSome, OnOk, IsErrOf, None, Ok, All, length};
 ghost use Rattle.std.specs.List.{flat_map};
+ghost use Rattle.rld_fields.specs.Field.{option_spelled, short};
 ghost use Rattle.rld_fields.specs.Lists.{all_of, list_of, values_at};
+ghost use Rattle.rld_fields.specs.Numbers.{number_octets};
 ghost use Rattle.rld_fields.specs.Read.{Gives, Reads, ReadsIn, ReadsInto};
 ghost use Rattle.rld_spelling.specs.Books.{BookSeen, book_seen, books_seen};
 ghost use Rattle.rld_spelling.specs.Books.{DecisionFits, decision_at, decision_octets};
-ghost use Rattle.rld_spelling.specs.Books.{HolderFits, holder_at, holder_octets};
+ghost use Rattle.rld_spelling.specs.Books.{HolderFits, holder_octets, held_at, held_since, is_known, since_at};
 ghost use Rattle.rld_spelling.specs.Books.{link_at, link_field, link_octets, links_at, links_field, links_octets};
 ghost use Rattle.rld_spelling.specs.Books.{kept_ask_at, kept_ask_field, kept_ask_octets, asks_at, asks_field, asks_octets};
 ghost use Rattle.rld_spelling.specs.Books.{kept_stop_at, kept_stop_field, kept_stop_octets, stops_at, stops_field, stops_octets};
@@ -20,6 +22,7 @@ use crate::server::{
 use rld_fields::{Cause, Fault, ReadFault, Reader, push_flag, push_number, push_short};
 use rsl_event::Decision;
 use rsl_session::{KeptAsk, KeptStop, SavedBook, SavedHolder, SavedLink, Session};
+use rsl_wire::Octets;
 use std::alloc::{AllocError, Global};
 
 /// The tags of decisions.
@@ -33,6 +36,10 @@ const LIMIT_REJECT: u8 = 2;
 const RESERVED: u8 = 0;
 
 const BOUND: u8 = 1;
+
+const RESERVED_SINCE: u8 = 2;
+
+const BOUND_SINCE: u8 = 3;
 
 // ---- decisions
 
@@ -73,6 +80,35 @@ fn read_decision(reader: &mut Reader) -> Result<Decision, Fault>
 
 // ---- links
 
+/// What holds a link, when it opened, and its station.
+#[derive(Drop)]
+struct Held {
+    /// What holds it.
+    holder: SavedHolder,
+    /// The account's clock when it opened, in seconds; 0 where that is not known.
+    opened: u64,
+    /// Its station, if one is known.
+    station: Option<Octets>,
+}
+
+/// What holds a link of which neither is known.
+fn held_alone(holder: SavedHolder) -> Held
+    ensures { result ≡ held_since holder (0, None) }
+{
+    Held {
+        holder,
+        opened: 0,
+        station: None,
+    }
+}
+
+/// Whether it is known when a link opened, or its station.
+fn is_known(opened: u64, station: &Option<Octets>) -> bool
+    ensures { result ≡ is_known (opened, station.now) }
+{
+    0 < opened || station.is_some()
+}
+
 /// Whether what holds a link has a spelling.
 fn holder_fits(holder: &SavedHolder) -> bool
     ensures { IsTrue result ↔ HolderFits holder.now }
@@ -91,49 +127,115 @@ fn holder_fits(holder: &SavedHolder) -> bool
 fn link_fits(link: &SavedLink, clients: u32) -> bool
     ensures { IsTrue result ↔ (link_field clients).Fits link.now }
 {
+    let _opened = link.opened;
     let _touched = link.touched;
-    nas_fits(&link.nas, clients) && holder_fits(&link.holder) && option_fits(&link.bundle)
+    nas_fits(&link.nas, clients)
+        && holder_fits(&link.holder)
+        && option_fits(&link.station)
+        && option_fits(&link.bundle)
 }
 
-/// Spells what holds a link.
-#[tactic(auto, unfolding(crate::specs::Books::holder_octets))]
-fn push_holder(out: &mut Vec<u8>, holder: &SavedHolder) -> Result<(), AllocError>
-    requires { HolderFits holder.now }
-    ensures { OnOk result (out.new.items ≡ out.old.items ++ holder_octets holder.now) }
+/// Spells when a link opened, and its station.
+fn push_since(out: &mut Vec<u8>, opened: u64, station: &Option<Octets>) -> Result<(), AllocError>
+    requires { IfSome station.now short.Fits }
+    ensures { OnOk result (out.new.items ≡
+        out.old.items ++ (number_octets opened ++ option_spelled short station.now)) }
 {
+    push_number(out, opened)?;
+    push_option(out, station)
+}
+
+/// Spells what holds a link, and when it opened and its station, unless neither is known.
+fn push_holder(
+    out: &mut Vec<u8>,
+    holder: &SavedHolder,
+    opened: u64,
+    station: &Option<Octets>,
+) -> Result<(), AllocError>
+    requires holder { HolderFits holder.now }
+    requires station { IfSome station.now short.Fits }
+    ensures { OnOk result (out.new.items ≡
+        out.old.items ++ holder_octets holder.now (opened, station.now)) }
+{
+    let known = is_known(opened, station);
     match holder {
         SavedHolder::Reserved(number) => {
-            out.push(RESERVED)?;
-            push_number(out, *number)
+            if known {
+                out.push(RESERVED_SINCE)?;
+                push_number(out, *number)?;
+                push_since(out, opened, station)
+            } else {
+                out.push(RESERVED)?;
+                push_number(out, *number)
+            }
         }
         SavedHolder::Bound(session) => {
-            out.push(BOUND)?;
-            push_short(out, session.as_slice())
+            if known {
+                out.push(BOUND_SINCE)?;
+                push_short(out, session.as_slice())?;
+                push_since(out, opened, station)
+            } else {
+                out.push(BOUND)?;
+                push_short(out, session.as_slice())
+            }
         }
     }
 }
 
 /// Spells a link.
-#[tactic(auto, unfolding(crate::specs::Books::link_octets, crate::specs::Books::LinkFits))]
+#[tactic(auto, unfolding(crate::specs::Books::link_octets, crate::specs::Books::held_octets, crate::specs::Books::LinkFits))]
 fn push_link(out: &mut Vec<u8>, link: &SavedLink, clients: u32) -> Result<(), AllocError>
     requires { (link_field clients).Fits link.now }
     ensures { OnOk result (out.new.items ≡ out.old.items ++ link_octets link.now) }
 {
     push_nas(out, &link.nas)?;
-    push_holder(out, &link.holder)?;
+    push_holder(out, &link.holder, link.opened, &link.station)?;
     push_option(out, &link.bundle)?;
     push_number(out, link.touched)
 }
 
-/// Reads what holds a link.
-#[tactic(auto, unfolding(crate::specs::Books::holder_at))]
-fn read_holder(alloc: Global, reader: &mut Reader) -> Result<SavedHolder, ReadFault>
-    ensures { ReadsIn result reader.new (holder_at reader.old) }
+/// Reads when a link opened, and its station. `OutOfRange` comes if neither is known.
+#[tactic(auto, unfolding(crate::specs::Books::since_at))]
+fn read_since(alloc: Global, reader: &mut Reader) -> Result<(u64, Option<Octets>), ReadFault>
+    ensures { ReadsIn result reader.new (since_at reader.old) }
+{
+    let unknown = reader.fault(Cause::OutOfRange);
+    let opened = reader.number()?;
+    let station = read_option(alloc, reader)?;
+    if is_known(opened, &station) {
+        Ok((opened, station))
+    } else {
+        Err(ReadFault::Malformed(unknown))
+    }
+}
+
+/// Reads what holds a link, when it opened, and its station.
+#[tactic(auto, unfolding(crate::specs::Books::held_at, crate::specs::Books::since_at))]
+fn read_held(alloc: Global, reader: &mut Reader) -> Result<Held, ReadFault>
+    ensures { ReadsIn result reader.new (held_at reader.old) }
 {
     let unknown = reader.fault(Cause::UnknownTag);
     match reader.octet()? {
-        RESERVED => Ok(SavedHolder::Reserved(reader.number()?)),
-        BOUND => Ok(SavedHolder::Bound(read_id(alloc, reader)?)),
+        RESERVED => Ok(held_alone(SavedHolder::Reserved(reader.number()?))),
+        BOUND => Ok(held_alone(SavedHolder::Bound(read_id(alloc, reader)?))),
+        RESERVED_SINCE => {
+            let holder = SavedHolder::Reserved(reader.number()?);
+            let (opened, station) = read_since(alloc, reader)?;
+            Ok(Held {
+                holder,
+                opened,
+                station,
+            })
+        }
+        BOUND_SINCE => {
+            let holder = SavedHolder::Bound(read_id(alloc, reader)?);
+            let (opened, station) = read_since(alloc, reader)?;
+            Ok(Held {
+                holder,
+                opened,
+                station,
+            })
+        }
         _ => Err(ReadFault::Malformed(unknown)),
     }
 }
@@ -144,13 +246,15 @@ fn read_link(alloc: Global, reader: &mut Reader, clients: u32) -> Result<SavedLi
     ensures { ReadsIn result reader.new (link_at clients reader.old) }
 {
     let nas = read_nas(alloc, reader, clients)?;
-    let holder = read_holder(alloc, reader)?;
+    let held = read_held(alloc, reader)?;
     let bundle = read_option(alloc, reader)?;
     let touched = reader.number()?;
     Ok(SavedLink {
         nas,
-        holder,
+        holder: held.holder,
         bundle,
+        station: held.station,
+        opened: held.opened,
         touched,
     })
 }

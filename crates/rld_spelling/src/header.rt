@@ -8,12 +8,50 @@ use rld_fields::{Cause, Fault, Reader, push_number};
 use rsl_rule::SESSION_RULE_VERSION;
 use std::alloc::AllocError;
 
-/// The version of the format: of every spelling of this crate.
-pub const FORMAT_VERSION: u64 = 1;
+/// A version of the format: of every spelling of this crate.
+#[derive(Clone, Copy, PartialEq, Eq)]
+pub enum Format {
+    /// Version 1. It does not know stations, delays of restarts, and when a link opened.
+    One,
+    /// Version 2. It has all of version 1.
+    Two,
+}
+
+/// The version of the format that is written.
+pub const FORMAT_VERSION: Format = Format::Two;
+
+impl Format {
+    ghost use Rattle.rld_spelling.specs.Headers.{format_at, format_number};
+
+    /// Its number.
+    fn number(self) -> u64
+        ensures { result ≡ format_number self }
+    {
+        match self {
+            Format::One => 1,
+            Format::Two => 2,
+        }
+    }
+
+    /// Reads a version. `OtherFormat` comes at any other number.
+    #[tactic(auto, unfolding(crate::specs::Headers::format_at))]
+    fn read(reader: &mut Reader) -> Result<Format, Fault>
+        ensures { Reads result reader.new (format_at reader.old) }
+    {
+        let other = reader.fault(Cause::OtherFormat);
+        match reader.number()? {
+            1 => Ok(Format::One),
+            2 => Ok(Format::Two),
+            _ => Err(other),
+        }
+    }
+}
 
 /// The header of a generation.
 #[derive(Clone, Copy, PartialEq, Eq)]
 pub struct Header {
+    /// The version of the format in which the generation is written.
+    pub format: Format,
     /// The number of the era.
     pub era: u64,
     /// The number of the generation in its era.
@@ -34,7 +72,7 @@ impl Header {
     pub fn push(&self, out: &mut Vec<u8>) -> Result<(), AllocError>
         ensures { OnOk result (out.new.items ≡ out.old.items ++ header_octets self.now) }
     {
-        push_number(out, FORMAT_VERSION)?;
+        push_number(out, self.format.number())?;
         push_number(out, SESSION_RULE_VERSION)?;
         push_number(out, self.era)?;
         push_number(out, self.generation)?;
@@ -54,13 +92,14 @@ impl Header {
     fn read_next(reader: &mut Reader) -> Result<Header, Fault>
         ensures { Reads result reader.new (header_at reader.old) }
     {
-        reader.exactly(Cause::OtherFormat, FORMAT_VERSION)?;
+        let format = Format::read(reader)?;
         reader.exactly(Cause::OtherRule, SESSION_RULE_VERSION)?;
         let era = reader.number()?;
         let generation = reader.number()?;
         let digest = reader.octets_16()?;
         let lines = reader.number()?;
         Ok(Header {
+            format,
             era,
             generation,
             digest,

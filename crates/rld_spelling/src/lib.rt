@@ -23,5 +23,5 @@ mod server;
 pub use book::{book_fits, push_book, read_books};
 pub use era::{Era, EraAccount, EraClient};
 pub use fault::SpellFault;
-pub use header::{FORMAT_VERSION, Header};
+pub use header::{FORMAT_VERSION, Format, Header};
 pub use moves::Counts;

@@ -1,16 +1,17 @@
 //! Moves.
 
-ghost use Rattle.std.specs.Prelude.{◌≡◌, ◌++◌, ◌<◌, ◌^◌, ◌↔◌, List, IsTrue, IfOk, IfSome, OnOk, IsErrOf, Ok, All, length};
+ghost use Rattle.std.specs.Prelude.{◌≡◌, ◌++◌, ◌<◌, ◌^◌, ◌↔◌, List, ◌∷◌, IsTrue, IfOk, IfSome, OnOk, IsErrOf, Ok, All, length};
 ghost use Rattle.rld_fields.specs.Field.{optional, option_spelled, short};
 ghost use Rattle.rld_fields.specs.Lists.{all_of, values_at};
 ghost use Rattle.std.specs.List.{flat_map};
-ghost use Rattle.rld_fields.specs.Numbers.{number, below_at};
+ghost use Rattle.rld_fields.specs.Numbers.{number, number_octets, below_at};
 ghost use Rattle.rld_fields.specs.Read.{Gives, Reads, ReadsIn, ReadsInto};
 ghost use Rattle.rld_fields.specs.declared.fault.Cause.TheVariants.{NoAccount};
-ghost use Rattle.rld_spelling.specs.Servers.{NameFits};
+ghost use Rattle.rld_spelling.specs.Servers.{NameFits, nas_octets};
 ghost use Rattle.rsl_shard.specs.declared.moved.Move.{Move as OneMove};
-ghost use Rattle.rld_spelling.specs.Moves.{MoveFits, OwnFits, own_octets, note_octets, move_octets, move_field, moves_field};
+ghost use Rattle.rld_spelling.specs.Moves.{MoveFits, OwnFits, own_octets, note_octets, sweep_octets, move_octets, move_field, moves_field};
 ghost use Rattle.rld_spelling.specs.Moves.{ask_at, alive_at, stop_at, sweep_at, tick_at, stray_at, move_at};
+ghost use Rattle.rld_spelling.specs.Moves.{stationed_ask_at, stationed_alive_at, late_sweep_at};
 
 use crate::fault::SpellFault;
 use crate::request::{key_has_spelling, push_key, read_key};
@@ -18,7 +19,7 @@ use crate::server::{
     id_fits, nas_fits, option_fits, push_nas, push_option, read_id, read_nas, read_option,
 };
 use rld_fields::{Cause, Fault, ReadFault, Reader, push_flag, push_number, push_short};
-use rsl_event::{Act, Event, Note};
+use rsl_event::{Act, Event, Key, Nas, Note};
 use rsl_shard::Move;
 use rsl_wire::Octets;
 use std::alloc::{AllocError, Global};
@@ -35,6 +36,12 @@ const SWEEP: u8 = 4;
 const TICK: u8 = 5;
 
 const STRAY: u8 = 6;
+
+const STATIONED_ASK: u8 = 7;
+
+const STATIONED_ALIVE: u8 = 8;
+
+const LATE_SWEEP: u8 = 9;
 
 /// The numbers of accounts and clients. An account and a client are named by numbers below these,
 /// in the order of the configuration. The spelling of moves depends on nothing else.
@@ -67,6 +74,114 @@ fn read_option_number(reader: &mut Reader) -> Result<Option<u64>, Fault>
         Ok(Some(reader.number()?))
     } else {
         Ok(None)
+    }
+}
+
+/// Spells the front of an own move: its tag, its moment and its account.
+fn push_front(out: &mut Vec<u8>, tag: u8, moment: u64, account: u32) -> Result<(), AllocError>
+    ensures { OnOk result (out.new.items ≡
+        out.old.items ++ (tag ∷ (number_octets moment ++ number_octets account))) }
+{
+    out.push(tag)?;
+    push_number(out, moment)?;
+    push_number(out, u64::from(account))
+}
+
+/// Spells an ask.
+fn push_ask(
+    out: &mut Vec<u8>,
+    account: u32,
+    moment: u64,
+    key: &Key,
+    nas: &Nas,
+    station: &Option<Octets>,
+) -> Result<(), AllocError>
+    requires nas { NameFits nas.now.name }
+    requires station { IfSome station.now short.Fits }
+    ensures { OnOk result (out.new.items ≡
+        out.old.items ++ own_octets account moment (Act.Ask key.now nas.now station.now)) }
+{
+    match station {
+        None => {
+            push_front(out, ASK, moment, account)?;
+            push_key(out, key)?;
+            push_nas(out, nas)
+        }
+        Some(station) => {
+            push_front(out, STATIONED_ASK, moment, account)?;
+            push_key(out, key)?;
+            push_nas(out, nas)?;
+            push_short(out, station.as_slice())
+        }
+    }
+}
+
+/// Spells what an alive says of its session, apart from the station.
+fn push_session(
+    out: &mut Vec<u8>,
+    nas: &Nas,
+    session: &Octets,
+    bundle: &Option<Octets>,
+    class: Option<u64>,
+) -> Result<(), AllocError>
+    requires nas { NameFits nas.now.name }
+    requires session { short.Fits session.now }
+    requires bundle { IfSome bundle.now short.Fits }
+    ensures { OnOk result (out.new.items ≡ out.old.items ++ (nas_octets nas.now
+        ++ (short.spell session.now
+        ++ (option_spelled short bundle.now ++ option_spelled number class)))) }
+{
+    push_nas(out, nas)?;
+    push_short(out, session.as_slice())?;
+    push_option(out, bundle)?;
+    push_option_number(out, class)
+}
+
+/// Spells an alive.
+fn push_alive(
+    out: &mut Vec<u8>,
+    account: u32,
+    moment: u64,
+    nas: &Nas,
+    session: &Octets,
+    bundle: &Option<Octets>,
+    class: Option<u64>,
+    station: &Option<Octets>,
+) -> Result<(), AllocError>
+    requires nas { NameFits nas.now.name }
+    requires session { short.Fits session.now }
+    requires bundle { IfSome bundle.now short.Fits }
+    requires station { IfSome station.now short.Fits }
+    ensures { OnOk result (out.new.items ≡ out.old.items ++ own_octets account moment
+        (Act.Alive nas.now session.now bundle.now class station.now)) }
+{
+    match station {
+        None => {
+            push_front(out, ALIVE, moment, account)?;
+            push_session(out, nas, session, bundle, class)
+        }
+        Some(station) => {
+            push_front(out, STATIONED_ALIVE, moment, account)?;
+            push_session(out, nas, session, bundle, class)?;
+            push_short(out, station.as_slice())
+        }
+    }
+}
+
+/// Spells a sweep. One with no delay has the tag of format 1.
+fn push_sweep(out: &mut Vec<u8>, moment: u64, nas: &Nas, delay: u64) -> Result<(), AllocError>
+    requires { NameFits nas.now.name }
+    ensures { OnOk result (out.new.items ≡ out.old.items ++ sweep_octets moment nas.now delay) }
+{
+    if delay == 0 {
+        out.push(SWEEP)?;
+        push_number(out, moment)?;
+        push_nas(out, nas)
+    } else {
+        out.push(LATE_SWEEP)?;
+        push_number(out, moment)?;
+        push_nas(out, nas)?;
+        push_number(out, delay)
     }
 }
 
@@ -108,18 +223,22 @@ impl Counts {
     {
         let there = account < self.accounts;
         match act {
-            Act::Ask { key, nas } => {
+            Act::Ask { key, nas, station } => {
                 key_has_spelling(*key);
-                there && nas_fits(nas, self.clients)
+                there && nas_fits(nas, self.clients) && option_fits(station)
             }
             Act::Alive {
                 nas,
                 session,
                 bundle,
                 class,
+                station,
             } => {
                 option_has_spelling(*class);
-                there && nas_fits(nas, self.clients) && ids_fit(session, bundle)
+                there
+                    && nas_fits(nas, self.clients)
+                    && ids_fit(session, bundle)
+                    && option_fits(station)
             }
             Act::Stop { nas, session } => there && nas_fits(nas, self.clients) && id_fits(session),
             Act::Sweep { .. } | Act::Tick => false,
@@ -133,8 +252,9 @@ impl Counts {
     {
         match moved {
             Move::Own { account, event } => self.own_fits(*account, event.moment, &event.act),
-            Move::Sweep { moment, nas } => {
+            Move::Sweep { moment, nas, delay } => {
                 let _moment = *moment;
+                let _delay = *delay;
                 nas_fits(nas, self.clients)
             }
             Move::Tick { moment } => {
@@ -163,31 +283,16 @@ impl Counts {
         ensures { OnOk result (out.new.items ≡ out.old.items ++ own_octets account moment act.now) }
     {
         match act {
-            Act::Ask { key, nas } => {
-                out.push(ASK)?;
-                push_number(out, moment)?;
-                push_number(out, u64::from(account))?;
-                push_key(out, key)?;
-                push_nas(out, nas)
-            }
+            Act::Ask { key, nas, station } => push_ask(out, account, moment, key, nas, station),
             Act::Alive {
                 nas,
                 session,
                 bundle,
                 class,
-            } => {
-                out.push(ALIVE)?;
-                push_number(out, moment)?;
-                push_number(out, u64::from(account))?;
-                push_nas(out, nas)?;
-                push_short(out, session.as_slice())?;
-                push_option(out, bundle)?;
-                push_option_number(out, *class)
-            }
+                station,
+            } => push_alive(out, account, moment, nas, session, bundle, *class, station),
             Act::Stop { nas, session } => {
-                out.push(STOP)?;
-                push_number(out, moment)?;
-                push_number(out, u64::from(account))?;
+                push_front(out, STOP, moment, account)?;
                 push_nas(out, nas)?;
                 push_short(out, session.as_slice())
             }
@@ -203,11 +308,7 @@ impl Counts {
     {
         match moved {
             Move::Own { account, event } => self.push_own(out, *account, event.moment, &event.act),
-            Move::Sweep { moment, nas } => {
-                out.push(SWEEP)?;
-                push_number(out, *moment)?;
-                push_nas(out, nas)
-            }
+            Move::Sweep { moment, nas, delay } => push_sweep(out, *moment, nas, *delay),
             Move::Tick { moment } => {
                 out.push(TICK)?;
                 push_number(out, *moment)
@@ -244,7 +345,7 @@ impl Counts {
         Ok(reader.below(Cause::NoAccount, u64::from(self.accounts))? as u32)
     }
 
-    /// Reads an ask after its tag.
+    /// Reads an ask without a station after its tag.
     #[tactic(auto, unfolding(crate::specs::Moves::ask_at))]
     fn read_ask(self, alloc: Global, reader: &mut Reader) -> Result<Move, ReadFault>
         ensures { ReadsIn result reader.new (ask_at self reader.old) }
@@ -253,14 +354,39 @@ impl Counts {
         let account = self.read_account(reader)?;
         let key = read_key(reader)?;
         let nas = read_nas(alloc, reader, self.clients)?;
-        let act = Act::Ask { key, nas };
+        let act = Act::Ask {
+            key,
+            nas,
+            station: None,
+        };
         Ok(Move::Own {
             account,
             event: Event { moment, act },
         })
     }
 
-    /// Reads an alive after its tag.
+    /// Reads an ask of a station after its tag.
+    #[tactic(auto, unfolding(crate::specs::Moves::stationed_ask_at))]
+    fn read_stationed_ask(self, alloc: Global, reader: &mut Reader) -> Result<Move, ReadFault>
+        ensures { ReadsIn result reader.new (stationed_ask_at self reader.old) }
+    {
+        let moment = reader.number()?;
+        let account = self.read_account(reader)?;
+        let key = read_key(reader)?;
+        let nas = read_nas(alloc, reader, self.clients)?;
+        let station = read_id(alloc, reader)?;
+        let act = Act::Ask {
+            key,
+            nas,
+            station: Some(station),
+        };
+        Ok(Move::Own {
+            account,
+            event: Event { moment, act },
+        })
+    }
+
+    /// Reads an alive without a station after its tag.
     #[tactic(auto, unfolding(crate::specs::Moves::alive_at))]
     fn read_alive(self, alloc: Global, reader: &mut Reader) -> Result<Move, ReadFault>
         ensures { ReadsIn result reader.new (alive_at self reader.old) }
@@ -276,6 +402,32 @@ impl Counts {
             session,
             bundle,
             class,
+            station: None,
+        };
+        Ok(Move::Own {
+            account,
+            event: Event { moment, act },
+        })
+    }
+
+    /// Reads an alive of a station after its tag.
+    #[tactic(auto, unfolding(crate::specs::Moves::stationed_alive_at))]
+    fn read_stationed_alive(self, alloc: Global, reader: &mut Reader) -> Result<Move, ReadFault>
+        ensures { ReadsIn result reader.new (stationed_alive_at self reader.old) }
+    {
+        let moment = reader.number()?;
+        let account = self.read_account(reader)?;
+        let nas = read_nas(alloc, reader, self.clients)?;
+        let session = read_id(alloc, reader)?;
+        let bundle = read_option(alloc, reader)?;
+        let class = read_option_number(reader)?;
+        let station = read_id(alloc, reader)?;
+        let act = Act::Alive {
+            nas,
+            session,
+            bundle,
+            class,
+            station: Some(station),
         };
         Ok(Move::Own {
             account,
@@ -299,14 +451,29 @@ impl Counts {
         })
     }
 
-    /// Reads a sweep after its tag.
+    /// Reads a sweep that was told with no delay after its tag.
     #[tactic(auto, unfolding(crate::specs::Moves::sweep_at))]
     fn read_sweep(self, alloc: Global, reader: &mut Reader) -> Result<Move, ReadFault>
         ensures { ReadsIn result reader.new (sweep_at self reader.old) }
     {
         let moment = reader.number()?;
         let nas = read_nas(alloc, reader, self.clients)?;
-        Ok(Move::Sweep { moment, nas })
+        Ok(Move::Sweep {
+            moment,
+            nas,
+            delay: 0,
+        })
+    }
+
+    /// Reads a sweep that was told late after its tag. `OutOfRange` comes if its delay is 0.
+    #[tactic(auto, unfolding(crate::specs::Moves::late_sweep_at))]
+    fn read_late_sweep(self, alloc: Global, reader: &mut Reader) -> Result<Move, ReadFault>
+        ensures { ReadsIn result reader.new (late_sweep_at self reader.old) }
+    {
+        let moment = reader.number()?;
+        let nas = read_nas(alloc, reader, self.clients)?;
+        let delay = reader.between(Cause::OutOfRange, 1, u64::MAX)?;
+        Ok(Move::Sweep { moment, nas, delay })
     }
 
     /// Reads a stray packet after its tag.
@@ -350,6 +517,9 @@ impl Counts {
             SWEEP => self.read_sweep(alloc, reader),
             TICK => Counts::read_tick(reader),
             STRAY => self.read_stray(alloc, reader),
+            STATIONED_ASK => self.read_stationed_ask(alloc, reader),
+            STATIONED_ALIVE => self.read_stationed_alive(alloc, reader),
+            LATE_SWEEP => self.read_late_sweep(alloc, reader),
             _ => Err(ReadFault::Malformed(unknown)),
         }
     }

@@ -1,6 +1,6 @@
 //! Cutting books to a moment.
 
-ghost use Rattle.std.specs.Prelude.{◌≡◌, ◌+◌, ◌<◌, ◌^◌, IfOk, map, sum_by};
+ghost use Rattle.std.specs.Prelude.{◌≡◌, ◌+◌, ◌<◌, ◌≤◌, ◌^◌, IfOk, map, sum_by};
 ghost use Rattle.rld_books.specs.Cut.{cut_ask, cut_book, cut_link, cut_server, cut_stop, earlier, late, late_in, late_in_server};
 ghost use Rattle.rld_books.specs.Saved.{IsServerOf};
 ghost use Rattle.rsl_session.specs.Saved.{saved_book, saved_link, saved_links};
@@ -35,21 +35,29 @@ fn earlier(now: u64, moment: u64) -> u64
 
 /// 1 for a later moment, else 0.
 fn late(now: u64, moment: u64) -> u64
-    ensures { result ≡ late now moment }
+    ensures late { result ≡ late now moment }
+    ensures one { result ≤ 1 }
 {
     if now < moment { 1 } else { 0 }
 }
 
 // ---- how many moments are cut
 
-/// The number of these links touched later, at most 2^64 - 1.
+/// The number of later moments of a link: of its opening and its last touch.
+fn late_link(now: u64, link: &SavedLink) -> u64
+    ensures { result ≡ late now link.now.opened + late now link.now.touched }
+{
+    late(now, link.opened).saturating_add(late(now, link.touched))
+}
+
+/// The number of later moments of these links, at most 2^64 - 1.
 fn late_links(now: u64, links: &[SavedLink]) -> u64
-    ensures { sum_by (λ link. late now link.touched) links.now < 2 ^ 64 →
-        result ≡ sum_by (λ link. late now link.touched) links.now }
+    ensures { sum_by (λ link. late now link.opened + late now link.touched) links.now < 2 ^ 64 →
+        result ≡ sum_by (λ link. late now link.opened + late now link.touched) links.now }
 {
     let mut count: u64 = 0;
     for link in links {
-        count = count.saturating_add(late(now, link.touched));
+        count = count.saturating_add(late_link(now, link));
     }
     count
 }
@@ -102,12 +110,20 @@ fn late_in_all(now: u64, kept: &[SavedBook]) -> u64
 
 // ---- the cut
 
-/// Cuts the last touch of each of these links.
+/// Cuts the opening and the last touch of a link.
+fn cut_link(now: u64, link: &mut SavedLink)
+    ensures { saved_link link.new ≡ cut_link now (saved_link link.old) }
+{
+    link.opened = earlier(now, link.opened);
+    link.touched = earlier(now, link.touched);
+}
+
+/// Cuts the opening and the last touch of each of these links.
 fn cut_links(now: u64, links: &mut [SavedLink])
     ensures { saved_links links.new ≡ map (cut_link now) (saved_links links.old) }
 {
     for link in links.iter_mut() {
-        link.touched = earlier(now, link.touched);
+        cut_link(now, link);
     }
 }
 
@@ -149,9 +165,10 @@ fn cut_each(now: u64, kept: &mut [SavedBook])
 }
 
 impl ServerBooks {
-    /// These books, cut to a moment, as those of their configuration: each clock, each last touch
-    /// of a link, and each moment of a kept ask or stop that is later becomes `now`, and nothing
-    /// else changes. So what was to end at a later moment ends as if its last packet came now.
+    /// These books, cut to a moment, as those of their configuration: each clock, each opening and
+    /// last touch of a link, and each moment of a kept ask or stop that is later becomes `now`, and
+    /// nothing else changes. So what was to end at a later moment ends as if its last packet came
+    /// now.
     ///
     /// `WrongCount` and `Misfit` come if they are of another configuration, and `NoMemory` if
     /// memory is refused. These books stay as they are.

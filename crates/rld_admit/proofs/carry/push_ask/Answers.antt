@@ -1,5 +1,4 @@
 use Rattle.std.proofs.Common.{◌≡◌, ◌∷◌, ◌++◌, [], Some, ◌∙◌, ap, sym, append-nil}
-use Rattle.rld_admit.specs.Carried.{asks_on}
 use Rattle.rld_admit.specs.Numbers.{number_in}
 use Rattle.rld_admit.proofs.Placing.{ask_gone, ask_on}
 use Rattle.rld_admit.proofs.carry.push_ask.Goals as goal

@@ -1,5 +1,4 @@
 use Rattle.std.proofs.Common.{◌≡◌, ◌∷◌, ◌++◌, [], Some, ◌∙◌, ap, sym, append-nil}
-use Rattle.rld_admit.specs.Carried.{stops_on}
 use Rattle.rld_admit.specs.Numbers.{number_in}
 use Rattle.rld_admit.proofs.Placing.{stop_gone, stop_on}
 use Rattle.rld_admit.proofs.carry.push_stop.Goals as goal

@@ -1,4 +1,4 @@
-use Rattle.std.proofs.Common.{ℕ, List, Option, ◌∙◌, ap}
+use Rattle.std.proofs.Common.{◌∙◌}
 use Rattle.rsl_accounts.specs.Configuration.{client_number}
 use Rattle.rsl_accounts.specs.declared.client.Client.{Client}
 use Rattle.rld_admit.proofs.Placing.{one_more}

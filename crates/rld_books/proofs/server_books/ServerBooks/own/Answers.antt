@@ -2,7 +2,7 @@ use Rattle.std.proofs.Common.{◌≡◌, ◌%◌, List, length, subst, sym, ap, 
 use Rattle.rsl_shard.specs.Restep.{BooksSeen}
 use Rattle.rsl_shard.specs.declared.moved.Move.TheVariants as moves
 use Rattle.rld_books.specs.Server.{IsOwnIn, IsServer, decision_in, server_after}
-use Rattle.rld_books.proofs.Stepping.{is_still_server, own_decided, own_is_taken, own_steps}
+use Rattle.rld_books.proofs.Stepping.{is_still_server, own_decided, own_steps}
 use Rattle.rld_books.proofs.server_books.ServerBooks.own.Goals as goal
 
 pub invariant_of-self : goal.invariant_of-self

@@ -1,4 +1,4 @@
-use Rattle.std.proofs.Common.{◌≡◌, ◌++◌, List, drop, length, map, rules, subst, sym, take, ap, ◌∙◌}
+use Rattle.std.proofs.Common.{◌≡◌, List, length, map, rules, subst, sym, ap, ◌∙◌}
 use Rattle.std.proofs.lemmas.List.{length-map}
 use Rattle.rsl_shard.specs.Restep.{BooksSeen}
 use Rattle.rsl_shard.specs.declared.moved.Move.TheVariants as moves
