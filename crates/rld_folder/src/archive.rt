@@ -1,12 +1,13 @@
 //! The logs that no start needs any more: they are moved to the folder `archive` beside the others,
 //! or removed, and so are the tables of eras without a log.
 
-ghost use Rattle.std.specs.Prelude.{◌≡◌, All, IfOk};
+ghost use Rattle.std.specs.Prelude.{◌≡◌, ◌<◌, All, IfOk};
 ghost use Rattle.rld_folder.specs.Newest.{Precedes};
 
 use crate::fault::FolderFault;
 use crate::folder::{Folder, files_among, make_folder, path_in, sync_names};
 use crate::name::{FileName, Generation};
+use crate::new_log::LogKey;
 use crate::older::{ArchivedLog, excess_logs, is_expired};
 use std::alloc::{AllocError, Global};
 use std::fs::{self, File};
@@ -22,7 +23,7 @@ pub struct Synced {
 }
 
 /// Proof that the log of a generation was removed, and the names of the folder synced. Only
-/// `Folder::remove_log` makes one.
+/// `Folder::remove_log` gives one.
 #[derive(Drop)]
 pub struct Removed {
     generation: Generation,
@@ -114,9 +115,21 @@ impl Folder {
         }
     }
 
-    /// Removes a log. `Unremoved` comes if it is missing or cannot be removed; after `Unsynced` it
-    /// is gone, but a loss of power may bring it back.
+    /// Removes a log by the key that its making gave. `Unremoved` comes if it is missing or cannot be
+    /// removed; after `Unsynced` it is gone, but a loss of power may bring it back.
     pub fn remove_log<R: Files<File = File>>(
+        &self,
+        files: &R,
+        alloc: Global,
+        key: LogKey,
+    ) -> Result<Removed, FolderFault>
+        ensures { IfOk result (λ removed. removed.generation ≡ key.generation) }
+    {
+        self.remove_log_of(files, alloc, key.generation())
+    }
+
+    /// Removes the log of a generation, as `remove_log` does.
+    pub(crate) fn remove_log_of<R: Files<File = File>>(
         &self,
         files: &R,
         alloc: Global,
@@ -143,22 +156,26 @@ impl Folder {
     {
         let mut outcome = Ok(());
         for generation in logs {
-            if let Err(fault) = self.remove_log(files, alloc, *generation) {
+            if let Err(fault) = self.remove_log_of(files, alloc, *generation) {
                 outcome = first_fault(outcome, Err(fault));
             }
         }
         outcome
     }
 
-    /// Removes the tables of eras, and then syncs the names. After a fault of one the others are
-    /// removed all the same, and the first fault is given: `Unremoved` if a table is missing or
-    /// cannot be removed. After `Unsynced` they are gone, but a loss of power may bring them back.
+    /// Removes the tables of eras before that of a generation whose log is on the disk, and then
+    /// syncs the names. After a fault of one the others are removed all the same, and the first
+    /// fault is given: `Unremoved` if a table is missing or cannot be removed. After `Unsynced` they
+    /// are gone, but a loss of power may bring them back.
     pub fn remove_eras<R: Files<File = File>>(
         &self,
         files: &R,
         alloc: Global,
         eras: &[u64],
-    ) -> Result<(), FolderFault> {
+        newest: &Synced,
+    ) -> Result<(), FolderFault>
+        requires { All (λ era. era < newest.now.generation.era) eras.now }
+    {
         if eras.is_empty() {
             return Ok(());
         }

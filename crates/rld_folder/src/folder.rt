@@ -190,20 +190,6 @@ impl Folder {
         }
     }
 
-    /// The empty log of a new generation. Its name is synced; the log has to sync its octets.
-    /// `Unopened` comes if it exists or cannot be made. After `Unsynced` it exists, but a loss of
-    /// power may remove it.
-    pub fn create_log<R: Files<File = File>>(
-        &self,
-        files: &R,
-        alloc: Global,
-        generation: Generation,
-    ) -> Result<FileLog, FolderFault> {
-        let file = self.create(files, alloc, FileName::Log(generation))?;
-        self.sync(files)?;
-        Ok(FileLog::new(file))
-    }
-
     /// The octets of an era's table. `Linked` comes if a link is in its place, `Unopened` if it is
     /// missing, `Unread` if it cannot be read.
     pub fn read_era<R: Files<File = File>>(
@@ -246,7 +232,7 @@ impl Folder {
     }
 
     /// A new file, for its owner to read and write.
-    fn create<R: Files<File = File>>(
+    pub(crate) fn create<R: Files<File = File>>(
         &self,
         files: &R,
         alloc: Global,

@@ -6,6 +6,7 @@ mod archive;
 mod fault;
 mod folder;
 mod name;
+mod new_log;
 mod newest;
 mod older;
 
@@ -13,5 +14,6 @@ pub use archive::{Removed, Synced};
 pub use fault::FolderFault;
 pub use folder::Folder;
 pub use name::{FileName, Generation};
+pub use new_log::{LogKey, NewLog};
 pub use newest::newest_generation;
 pub use older::{ArchivedLog, excess_logs, is_expired, logless_eras, octets_in, older_logs};

@@ -67,7 +67,8 @@ fn has_log(files: &[FileName], archived: &[FileName], era: u64) -> bool
 
 /// Whether an era is before that of the newest generation, and has no log.
 fn is_logless(files: &[FileName], archived: &[FileName], newest: Generation, era: u64) -> bool
-    ensures { result ≡ is_logless files.now archived.now newest era }
+    ensures logless { result ≡ is_logless files.now archived.now newest era }
+    ensures before { IsTrue result → era < newest.era }
 {
     era < newest.era && !has_log(files, archived, era)
 }
@@ -79,7 +80,8 @@ fn logless_era(
     newest: Generation,
     file: FileName,
 ) -> Option<u64>
-    ensures { result ≡ logless_era files.now archived.now newest file }
+    ensures logless { result ≡ logless_era files.now archived.now newest file }
+    ensures before { IfSome result (λ era. era < newest.era) }
 {
     let FileName::Era(era) = file else {
         return None;
@@ -100,7 +102,8 @@ pub fn logless_eras(
     archived: &[FileName],
     newest: Generation,
 ) -> Result<Vec<u64>, AllocError>
-    ensures { IfOk result (λ eras. eras.items ≡ logless_eras files.now archived.now newest) }
+    ensures eras { IfOk result (λ eras. eras.items ≡ logless_eras files.now archived.now newest) }
+    ensures before { IfOk result (λ eras. All (λ era. era < newest.era) eras.items) }
 {
     let mut eras = Vec::new(alloc);
     for file in files {

@@ -53,7 +53,7 @@ unequal a b is same = clash (sym is ∙ eq-eqb a b same)
 left_alone : (server : List BooksSeen) (shard : ℕ) (moved : Move) (seen : BooksSeen) → IsServer server → slice_get server shard ≡ Some seen → is_move_of (length server) shard moved ≡ false
     → shard_after moved seen ≡ seen
 left_alone server shard (Own account event) seen is at other = other_shard server shard account event seen is at (unequal (account % length server) shard other)
-left_alone server shard (Sweep moment nas) seen is at other = absurd (clash other)
+left_alone server shard (Sweep moment nas delay) seen is at other = absurd (clash other)
   where
     clash : true ≡ false → ⊥
     clash h = cc
@@ -69,7 +69,7 @@ decided_there : (server : List BooksSeen) (shard : ℕ) (moved : Move) (seen : B
 decided_there server shard (Own account event) seen at its =
     ap (λ (o : Option BooksSeen). option_map_or (λ (s : BooksSeen). decision_by s.setup s.books (Own account event)) o Done)
     (ap (slice_get server) (eqb-true (account % length server) shard its) ∙ at)
-decided_there server shard (Sweep moment nas) seen at its = refl
+decided_there server shard (Sweep moment nas delay) seen at its = refl
 decided_there server shard (Tick moment) seen at its = refl
 decided_there server shard (Stray moment note) seen at its = refl
 
@@ -81,7 +81,7 @@ taken_there server shard (Own account event) seen at its own =
   where
     one : Some own.seen ≡ Some seen → own.seen ≡ seen
     one e = cc
-taken_there server shard (Sweep moment nas) seen at its taken = tt
+taken_there server shard (Sweep moment nas delay) seen at its taken = tt
 taken_there server shard (Tick moment) seen at its taken = tt
 taken_there server shard (Stray moment note) seen at its taken = tt
 
@@ -173,7 +173,7 @@ nothing_to shards account (Own other event) apart = by (other == account) refl
     by : (t : Bool) → (other == account) ≡ t → cond (other == account) (Some event) None ≡ None
     by true is = absurd (unequal (other % shards) (account % shards) apart (ap (λ (n : ℕ). n % shards) (eqb-true other account is)))
     by false is = ap (λ (t : Bool). cond t (Some event) None) is
-nothing_to shards account (Sweep moment nas) apart = absurd (clash apart)
+nothing_to shards account (Sweep moment nas delay) apart = absurd (clash apart)
   where
     clash : true ≡ false → ⊥
     clash h = cc

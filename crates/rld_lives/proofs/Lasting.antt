@@ -1,14 +1,15 @@
 -- How a life goes on, batch by batch.
-use Rattle.std.proofs.Common.{◌≡◌, inl, inr, true, false, List, [], ◌∷◌, ◌++◌, length, refl, sym, ◌∙◌, ap, subst, arith, append_assoc, append-nil}
+use Rattle.std.proofs.Common.{◌≡◌, inl, inr, Bool, true, false, ◌||◌, List, [], ◌∷◌, ◌++◌, length, refl, sym, ◌∙◌, ap, subst, arith, append_assoc, append-nil}
 use Rattle.std.specs.Prelude.{Ok, Err, IsErr}
 use Rattle.std.specs.List.{AllByRecursion}
+use Rattle.std.proofs.lemmas.List.Folds.{list_any-append}
 use Rattle.rsl_shard.specs.Restep.{BooksSeen}
 use Rattle.rsl_shard.specs.declared.moved.Move.{Move}
 use Rattle.rld_books.specs.Server.{decisions_of, replay}
-use Rattle.rld_store.specs.Recorded.{RecordedSeen}
+use Rattle.rld_store.specs.Recorded.{RecordedSeen, is_ended}
 use Rattle.rld_store.specs.declared.fault.RecordFault.{RecordFault}
 use Rattle.rld_store.specs.declared.fault.RecordFault.TheVariants.{Failed, Ended}
-use Rattle.rld_lives.specs.Life.{AreOutcomes, MayBeLeft, Outcome, recorded}
+use Rattle.rld_lives.specs.Life.{AreOutcomes, MayBeLeft, Outcome, has_ended, recorded}
 
 -- ---- batches of which some are left
 
@@ -108,3 +109,11 @@ pub none_next : (server books : List BooksSeen) (batches rest : List (List Move)
     → AreOutcomes server batches outcomes
 none_next server books batches [] outcomes out none = subst (λ (o : List Outcome). AreOutcomes server batches o) (append-nil outcomes) (out [] refl)
 none_next server books batches (batch ∷ rest) outcomes out none = absurd (omega (arith, none))
+
+-- ---- whether nothing more can be recorded
+
+-- the last result tells, where none before it did
+pub ended_more : (outcomes now : List Outcome) (outcome : Outcome) → now ≡ outcomes ++ outcome ∷ [] → has_ended outcomes ≡ false → has_ended now ≡ is_ended outcome
+ended_more outcomes now (Ok answer) is none = ap has_ended is ∙ list_any-append is_ended outcomes (Ok answer ∷ []) ∙ ap (λ (t : Bool). t || false) none
+ended_more outcomes now (Err Failed) is none = ap has_ended is ∙ list_any-append is_ended outcomes (Err Failed ∷ []) ∙ ap (λ (t : Bool). t || false) none
+ended_more outcomes now (Err Ended) is none = ap has_ended is ∙ list_any-append is_ended outcomes (Err Ended ∷ []) ∙ ap (λ (t : Bool). t || true) none

@@ -1,9 +1,8 @@
--- What a crash leaves of the log of a life.
-use Rattle.std.proofs.Common.{◌≡◌, ◌⊎◌, ⊎_elim, ℕ, List, [], ◌∷◌, ◌++◌, Option, Some, None, sym, subst, ◌∙◌, ap, refl, arith, append-nil}
-use Rattle.std.specs.Prelude.{IfOk, OnErr, Result, Ok, Err}
+-- What a life leaves, and what a crash leaves of its logs.
+use Rattle.std.proofs.Common.{◌≡◌, ◌⊎◌, ⊎_elim, ℕ, inl, inr, List, [], ◌∷◌, ◌++◌, length, Option, Some, None, sym, subst, ◌∙◌, ap, arith, append-nil}
+use Rattle.std.specs.Prelude.{Ok, Err}
 use Rattle.std.specs.Global.{Vec}
 use Rattle.std.specs.Option.{option_map}
-use Rattle.std.specs.Result.{result_ok}
 use Rattle.std.proofs.lemmas.List.Elements.{All-from_recursion}
 use Rattle.rsl_accounts.specs.Configuration.{Configuration}
 use Rattle.rld_store.specs.Recorded.{RecordedSeen}
@@ -13,14 +12,14 @@ use Rattle.rld_books.specs.Server.{replay}
 use Rattle.rld_log.specs.declared.log.Ending.{Ending}
 use Rattle.rld_spelling.specs.Moves.{move_field}
 use Rattle.rld_spelling.specs.declared.moves.Counts.{Counts}
-use Rattle.rld_store.proofs.Callers.{crashes_lose}
-use Rattle.rld_store.specs.Generations.{HasHistory}
-use Rattle.rld_store.specs.Premises.{Premise}
+use Rattle.rld_log.specs.Frames.{HasPayloads}
+use Rattle.rld_log.proofs.Callers.{have_one_reading}
+use Rattle.rld_store.specs.Generations.{HasHistory, IsUnbegun, StandForHistory}
 use Rattle.rld_store.specs.Standing.{StandsFor}
 use Rattle.rld_store.specs.declared.fault.RecordFault.{RecordFault}
 use Rattle.rld_store.specs.declared.store.End.{End}
 use Rattle.rld_store.specs.declared.store.End.TheVariants.{Settled}
-use Rattle.rld_lives.specs.Leaving.{LeavesLife}
+use Rattle.rld_lives.specs.Leaving.{HasLived, HaveHistory, OfEach, StandsAfter}
 use Rattle.rld_lives.specs.Life.{AreOutcomes, MayBeLeft, Outcome, recorded}
 use Rattle.rld_lives.proofs.Lasting.{HasCome, comes_recorded, comes_still, comes_unrecorded, none_left, recorded_none}
 
@@ -85,23 +84,28 @@ goes_on config opening counts now_counts tears end now_end seen now_seen may_lea
     })
     (stands goes.so_far goes.unanswered goes.stands)
 
--- how a life ends
-pub leaves : (config : Configuration) (opening : List BooksSeen) (counts : Counts) (tears : List ℕ → List ℕ → Type 0) (end : End) (seen : List ℕ) (may_leave : Ending → List ℕ → Type 0) (whole : ℕ) (books : List BooksSeen) (history : List Move)
+-- what a store stands for after a life
+pub stands_after : (config : Configuration) (opening : List BooksSeen) (counts : Counts) (tears : List ℕ → List ℕ → Type 0) (end : End) (seen : List ℕ) (may_leave : Ending → List ℕ → Type 0) (whole : ℕ) (books : List BooksSeen) (history : List Move)
     (batches : List (List Move)) (outcomes : List Outcome) (rest : List (List Move))
-    → GoesOn config opening counts tears end seen may_leave whole books history batches outcomes rest → AreOutcomes (replay opening history) batches outcomes → LeavesLife config opening tears history batches (Some outcomes) may_leave
-leaves config opening counts tears end seen may_leave whole books history batches outcomes rest goes out ending premise file reached =
-    ⊎_elim
-    (λ has. record {
-      left = goes.so_far;
-      life = record { came_out = out; more = []; may_be_left = subst (λ (o : List Outcome). MayBeLeft [] batches o) (append-nil outcomes) (none_left batches (outcomes ++ [])); left_is = moves ∙ sym (append-nil (history ++ recorded batches outcomes)) };
-      has = has;
-    })
-    (λ has. record {
-      left = goes.so_far ++ goes.unanswered;
-      life = record { came_out = out; more = goes.unanswered; may_be_left = subst (λ (o : List Outcome). MayBeLeft goes.unanswered batches o) (append-nil outcomes) (goes.come.over [] tt); left_is = ap (λ (m : List Move). m ++ goes.unanswered) moves };
-      has = has;
-    })
-    (crashes_lose config opening counts tears end seen may_leave whole books goes.so_far goes.unanswered goes.stands ending premise file reached)
+    → GoesOn config opening counts tears end seen may_leave whole books history batches outcomes rest → AreOutcomes (replay opening history) batches outcomes
+    → StandsAfter config opening counts tears end seen may_leave whole books history batches outcomes
+stands_after config opening counts tears end seen may_leave whole books history batches outcomes rest goes out = record {
+  left = goes.so_far;
+  unanswered = goes.unanswered;
+  stands = goes.stands;
+  life = record {
+    came_out = out;
+    more = [];
+    may_be_left = subst (λ (o : List Outcome). MayBeLeft [] batches o) (append-nil outcomes) (none_left batches (outcomes ++ []));
+    left_is = moves ∙ sym (append-nil (history ++ recorded batches outcomes));
+  };
+  also = record {
+    came_out = out;
+    more = goes.unanswered;
+    may_be_left = subst (λ (o : List Outcome). MayBeLeft goes.unanswered batches o) (append-nil outcomes) (goes.come.over [] tt);
+    left_is = ap (λ (m : List Move). m ++ goes.unanswered) moves;
+  };
+}
   where
     moves : goes.so_far ≡ history ++ recorded batches outcomes
     moves = sym (append-nil goes.so_far) ∙ ap (λ (m : List Move). goes.so_far ++ m) (sym (recorded_none rest [] tt)) ∙ sym (goes.come.moves []) ∙ ap (λ (o : List Outcome). history ++ recorded batches o) (append-nil outcomes)
@@ -110,32 +114,50 @@ leaves config opening counts tears end seen may_leave whole books history batche
 abbrev pub items_of : Option (Vec Outcome) → Option (List Outcome)
 items_of one = option_map (λ (outcomes : Vec Outcome). outcomes.items) one
 
--- a log that was not opened, or whose life did not begin
-pub leaves_none : (config : Configuration) (opening : List BooksSeen) (tears : List ℕ → List ℕ → Type 0) (may_leave : Ending → List ℕ → Type 0) (history : List Move) (batches : List (List Move))
-    → ((ending : Ending) → Premise tears ending → (file : List ℕ) → may_leave ending file → HasHistory config opening history file) → LeavesLife config opening tears history batches None may_leave
-leaves_none config opening tears may_leave history batches leaves ending premise file reached = record {
-  left = history;
-  life = refl;
-  has = leaves ending premise file reached;
-}
+-- ---- what a crash leaves
 
--- the same of a store that has only been opened
-pub leaves_opened : (config : Configuration) (opening : List BooksSeen) (counts : Counts) (tears : List ℕ → List ℕ → Type 0) (end : End) (seen : List ℕ) (may_leave : Ending → List ℕ → Type 0) (whole : ℕ) (books : List BooksSeen) (history : List Move) (batches : List (List Move))
-    → StandsFor config opening counts tears end seen may_leave whole books history [] → LeavesLife config opening tears history batches None may_leave
-leaves_opened config opening counts tears end seen may_leave whole books history batches so =
-    leaves_none config opening tears may_leave history batches (λ ending premise file reached.
-    ⊎_elim (λ has. has) (λ has. subst (λ (h : List Move). HasHistory config opening h file) (append-nil history) has)
-    (crashes_lose config opening counts tears end seen may_leave whole books history [] so ending premise file reached))
+-- what logs have that a life left
+pub has_lived : {L : Type 0} (config : Configuration) (opening : List BooksSeen) (counts : Counts) (tears : List ℕ → List ℕ → Type 0) (end : End) (seen : List ℕ) (may_leave : Ending → List ℕ → Type 0) (whole : ℕ) (books : List BooksSeen) (history : List Move)
+    (batches : List (List Move)) (outcomes : List Outcome) (file : L → List ℕ) (older : Option L) (newest : L)
+    → (so : StandsAfter config opening counts tears end seen may_leave whole books history batches outcomes)
+    → HaveHistory config opening so.left file older newest ⊎ HaveHistory config opening (so.left ++ so.unanswered) file older newest
+    → HasLived config opening history batches (Some outcomes) file older newest
+has_lived config opening counts tears end seen may_leave whole books history batches outcomes file older newest so (inl have) = record { left = so.left; life = so.life; have = have }
+has_lived config opening counts tears end seen may_leave whole books history batches outcomes file older newest so (inr have) = record { left = so.left ++ so.unanswered; life = so.also; have = have }
 
--- what a life leaves that was to begin over a store that stands for a history
-pub leaves_told : {E : Type 0} (config : Configuration) (opening : List BooksSeen) (counts : Counts) (tears : List ℕ → List ℕ → Type 0) (end : End) (seen : List ℕ) (old may_leave : Ending → List ℕ → Type 0) (whole : ℕ) (books : List BooksSeen) (history : List Move) (batches : List (List Move))
-    (tells same : Type 0) (result : Result (Vec Outcome) E) (told : Option (Vec Outcome))
-    → StandsFor config opening counts tears end seen old whole books history [] → tells
-    → IfOk result (λ (outcomes : Vec Outcome). tells → (config : Configuration) (opening : List BooksSeen) (history : List Move) → StandsFor config opening counts tears end seen old whole books history []
-    → LeavesLife config opening tears history batches (Some outcomes.items) may_leave)
-    → OnErr result same → (same → LeavesLife config opening tears history batches None may_leave) → told ≡ result_ok result
-    → LeavesLife config opening tears history batches (items_of told) may_leave
-leaves_told config opening counts tears end seen old may_leave whole books history batches tells same (Ok outcomes) told so tell some err none is =
-    subst (λ (t : Option (Vec Outcome)). LeavesLife config opening tears history batches (items_of t) may_leave) (sym is) (some tell config opening history so)
-leaves_told config opening counts tears end seen old may_leave whole books history batches tells same (Err fault) told so tell some err none is =
-    subst (λ (t : Option (Vec Outcome)). LeavesLife config opening tears history batches (items_of t) may_leave) (sym is) (none err)
+-- what two logs have that a roll left
+pub both_have : {L : Type 0} (config : Configuration) (opening : List BooksSeen) (history unanswered : List Move) (file : L → List ℕ) (older newest : L) → StandForHistory config opening history unanswered (file older) (file newest)
+    → HaveHistory config opening history file (Some older) newest ⊎ HaveHistory config opening (history ++ unanswered) file (Some older) newest
+both_have config opening history unanswered file older newest (inl has) = inl (inl has)
+both_have config opening history unanswered file older newest (inr (none, inl has)) = inl (inr (none, has))
+both_have config opening history unanswered file older newest (inr (none, inr has)) = inr (inr (none, has))
+
+-- what holds of each log
+pub each : {L : Type 0} (P Q : L → Type 0) → ((log : L) → P log → Q log) → (older : Option L) (newest : L) → OfEach P older newest → OfEach Q older newest
+each P Q by None newest one = by newest one
+each P Q by (Some older) newest both = (by older both.0, by newest both.1)
+
+-- ---- which of two logs counts
+
+-- one with two payloads was begun
+pub begun_by_two : (file : List ℕ) (payloads : List (List ℕ)) (first second : List ℕ) (rest : List (List ℕ)) → HasPayloads file payloads → payloads ≡ first ∷ second ∷ rest → IsUnbegun file → ⊥
+begun_by_two file payloads first second rest has are none =
+    let size : length none.payloads ≡ length (first ∷ second ∷ rest) = ap length (have_one_reading file none.payloads payloads none.has has ∙ are) in
+    omega (arith, size, none.few)
+
+-- so was one that has a history
+pub begun_by_history : (config : Configuration) (opening : List BooksSeen) (history : List Move) (file : List ℕ) → HasHistory config opening history file → IsUnbegun file → ⊥
+begun_by_history config opening history file has none =
+    begun_by_two file has.payloads _ _ _ has.has has.are.generation.payloads_are none
+
+-- the newest, if it was begun
+pub newest_has : (config : Configuration) (opening : List BooksSeen) (history : List Move) (older newest : List ℕ) → (IsUnbegun newest → ⊥)
+    → HasHistory config opening history newest ⊎ (IsUnbegun newest × HasHistory config opening history older) → HasHistory config opening history newest
+newest_has config opening history older newest begun (inl has) = has
+newest_has config opening history older newest begun (inr (none, has)) = absurd (begun none)
+
+-- else the older one
+pub older_has : (config : Configuration) (opening : List BooksSeen) (history : List Move) (older newest : List ℕ) → IsUnbegun newest
+    → HasHistory config opening history newest ⊎ (IsUnbegun newest × HasHistory config opening history older) → HasHistory config opening history older
+older_has config opening history older newest none (inl has) = absurd (begun_by_history config opening history newest has none)
+older_has config opening history older newest none (inr (also, has)) = has

@@ -1,3 +1,4 @@
+pub mod Choosing
 pub mod Counted
 pub mod Eras
 pub mod Leaving

@@ -1,12 +1,12 @@
 -- Lives over a log: each opens what a crash left of the one before it, and answers its batches.
-use Rattle.std.specs.Prelude.{◌≡◌, ◌⊎◌, ℕ, List, [], ◌∷◌, ◌++◌, map, slice_get, Option, Some, None, Result, Ok, Err, IsErr}
-use Rattle.std.specs.List.{flat_map, AllByRecursion}
+use Rattle.std.specs.Prelude.{◌≡◌, ◌⊎◌, ℕ, Bool, List, [], ◌∷◌, ◌++◌, map, slice_get, Option, Some, None, Result, Ok, Err, IsErr}
+use Rattle.std.specs.List.{flat_map, list_any, AllByRecursion}
 use Rattle.rsl_event.specs.declared.event.Decision.{Decision}
 use Rattle.rsl_shard.specs.Restep.{BooksSeen}
 use Rattle.rsl_shard.specs.declared.line.Line.{Line}
 use Rattle.rsl_shard.specs.declared.moved.Move.{Move}
 use Rattle.rld_books.specs.Server.{decisions_of, journal_of, replay}
-use Rattle.rld_store.specs.Recorded.{RecordedSeen}
+use Rattle.rld_store.specs.Recorded.{RecordedSeen, is_ended}
 use Rattle.rld_store.specs.declared.fault.RecordFault.{RecordFault}
 use Rattle.rld_store.specs.declared.fault.RecordFault.TheVariants.{Failed, Ended}
 
@@ -17,6 +17,10 @@ joined batches = flat_map (λ (batch : List Move). batch) batches
 -- the result of a batch: the decisions on its moves, or that it was not recorded
 abbrev pub Outcome : Type 0
 Outcome = Result RecordedSeen RecordFault
+
+-- whether a batch was refused since nothing more can be recorded
+abbrev pub has_ended : List Outcome → Bool
+has_ended outcomes = list_any is_ended outcomes
 
 -- The results of batches, one after another, given the books before. A recorded batch has the
 -- decisions of the books, which then make its moves. A batch that was not recorded leaves the books

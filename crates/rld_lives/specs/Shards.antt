@@ -14,7 +14,7 @@ use Rattle.rld_books.specs.Server.{AreTakenIn, journal_of, new_server, replay}
 -- tick is every shard's, a stray is shard 0's
 abbrev pub is_move_of : (shards shard : ℕ) → Move → Bool
 is_move_of shards shard (Own account event) = account % shards == shard
-is_move_of shards shard (Sweep moment nas) = true
+is_move_of shards shard (Sweep moment nas delay) = true
 is_move_of shards shard (Tick moment) = true
 is_move_of shards shard (Stray moment note) = shard == 0
 

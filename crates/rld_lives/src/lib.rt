@@ -2,12 +2,15 @@
 //! rule's over the account's own events in it.
 //!
 //! `specs/Life.antt` says what a life answers and leaves, `specs/Leaving.antt` what a crash leaves
-//! of it, `specs/Lives.antt` what holds of the history of all lives, `specs/Counted.antt` that this
-//! holds of what lives have answered, `specs/Eras.antt` what holds in every era, and
-//! `specs/Shards.antt` which moves of the log are a shard's.
+//! of its logs, `specs/Choosing.antt` which of two logs counts, `specs/Lives.antt` what holds of the
+//! history of all lives, `specs/Counted.antt` that this holds of what lives have answered,
+//! `specs/Eras.antt` what holds in every era, and `specs/Shards.antt` which moves of the log are a
+//! shard's.
 #![tactic(auto)]
 
+mod ending;
 pub mod laws;
 mod living;
 
+pub use ending::Logs;
 pub use living::{Lived, Outcome, Plan, Step, live, lives};

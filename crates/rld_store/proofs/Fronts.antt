@@ -18,15 +18,14 @@ use Rattle.rld_log.specs.Recording.{IsBeforeOrAfter, IsSettled}
 use Rattle.rld_log.specs.declared.log.Ending.{Ending}
 use Rattle.rld_log.proofs.Callers.{whole_has}
 use Rattle.rld_spelling.specs.Books.{BookSeen, book_field, book_octets, book_seen, books_field, books_seen}
-use Rattle.rld_spelling.specs.Headers.{header_field, header_octets}
 use Rattle.rld_spelling.specs.declared.header.Header.{Header}
 use Rattle.rld_spelling.specs.declared.moves.Counts.{Counts}
 use Rattle.rld_store.specs.Beginning.{HasAtMostOne, IsBegun, IsFront}
-use Rattle.rld_store.specs.Generations.{AreBatches, AreOfHistory, HasGeneration, HasHistory, HasHistoryOr, IsGeneration, IsSnapshot, IsUnbegun, StandForHistory, counts_of}
+use Rattle.rld_store.specs.Generations.{AreOfHistory, HasGeneration, HasHistory, HasHistoryOr, IsGeneration, IsSnapshot, IsUnbegun, StandForHistory, counts_of}
 use Rattle.rld_spelling.specs.Moves.{move_field, moves_field}
 use Rattle.rld_store.specs.Standing.{StandsFor}
 use Rattle.rld_store.specs.declared.store.End.TheVariants.{Settled}
-use Rattle.rld_store.proofs.Batches.{frame_size, replay_none, size_more}
+use Rattle.rld_store.proofs.Batches.{size_more}
 use Rattle.rld_store.proofs.States.{all_running}
 
 -- ---- the octets of a snapshot

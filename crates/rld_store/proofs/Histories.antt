@@ -1,22 +1,19 @@
 -- What the opening of a log leaves of it.
-use Rattle.std.proofs.Common.{◌≡◌, ◌⊎◌, inl, inr, ℕ, ◌+◌, ◌<◌, ◌≤◌, List, [], ◌∷◌, ◌++◌, length, map, refl, sym, ap, subst, ◌∙◌, arith}
-use Rattle.std.specs.List.{AllByRecursion}
+use Rattle.std.proofs.Common.{◌≡◌, inl, inr, ℕ, List, [], ◌∷◌, ◌++◌, length, sym, ap, subst, ◌∙◌, arith}
 use Rattle.rsl_accounts.specs.Configuration.{Configuration}
 use Rattle.rsl_shard.specs.Restep.{BooksSeen}
 use Rattle.rsl_shard.specs.declared.moved.Move.{Move}
 use Rattle.rld_books.specs.Server.{replay}
-use Rattle.rld_log.specs.Frames.{EndsAt, Fits, HasPayloads, IsDamagedAt, frames}
-use Rattle.rld_log.specs.Log.{Extends, NoMore, Only}
+use Rattle.rld_log.specs.Frames.{EndsAt, HasPayloads, frames}
+use Rattle.rld_log.specs.Log.{Extends, Only}
 use Rattle.rld_log.specs.Recording.{IsBeforeOrAfter, IsSettled, LeavesEither}
 use Rattle.rld_log.specs.declared.log.Ending.{Ending}
 use Rattle.rld_log.proofs.Callers.{ends_so, have_one_reading}
 use Rattle.rld_spelling.specs.declared.header.Header.{Header}
 use Rattle.rld_spelling.specs.declared.moves.Counts.{Counts}
-use Rattle.rld_store.specs.Generations.{AreOfHistory, HasHistory, IsUnbegun, counts_of}
-use Rattle.rld_store.specs.Opening.{IsFound, IsFoundIn}
+use Rattle.rld_store.specs.Generations.{HasHistory, counts_of}
+use Rattle.rld_store.specs.Opening.{IsFoundIn}
 use Rattle.rld_store.specs.Standing.{StandsFor}
-use Rattle.rld_store.specs.declared.fault.StoreFault.{StoreFault}
-use Rattle.rld_store.specs.declared.fault.StoreFault.TheVariants as faults
 use Rattle.rld_store.specs.declared.store.End.TheVariants.{Settled}
 use Rattle.rld_store.proofs.Batches.{size_more}
 use Rattle.rld_store.proofs.Fronts.{no_moves_fit}

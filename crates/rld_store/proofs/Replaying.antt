@@ -15,8 +15,8 @@ use Rattle.rld_spelling.specs.Headers.{header_at, header_field, header_octets}
 use Rattle.rld_spelling.specs.Moves.{moves_field}
 use Rattle.rld_spelling.specs.declared.header.Header.{Header}
 use Rattle.rld_spelling.specs.declared.moves.Counts.{Counts}
-use Rattle.rld_store.specs.Generations.{AreBatches, IsGeneration, IsSnapshot, counts_of, moves_in}
-use Rattle.rld_store.specs.Opening.{AreParts, IsAt, IsBatchAt, IsFirstFault, IsFound, IsFoundIn, IsMalformed, IsWhyNoBooks, IsWhyNoMoves, IsWhyNoParts, IsWhyUnread}
+use Rattle.rld_store.specs.Generations.{AreBatches, IsSnapshot, counts_of, moves_in}
+use Rattle.rld_store.specs.Opening.{AreParts, IsAt, IsBatchAt, IsFirstFault, IsFoundIn, IsMalformed, IsWhyNoBooks, IsWhyNoMoves, IsWhyNoParts, IsWhyUnread}
 use Rattle.rld_store.specs.declared.fault.Malformed.{Malformed}
 use Rattle.rld_store.specs.declared.fault.StoreFault.{StoreFault}
 use Rattle.rld_store.specs.declared.fault.StoreFault.TheVariants as faults

@@ -1,17 +1,17 @@
 -- A store stands for a history, before and after each call.
-use Rattle.std.proofs.Common.{◌≡◌, ◌⊎◌, inl, inr, ℕ, ◌+◌, ◌<◌, List, [], ◌∷◌, ◌++◌, length, refl, sym, ap, subst, ◌∙◌, arith}
+use Rattle.std.proofs.Common.{◌≡◌, inl, inr, ℕ, ◌+◌, List, [], ◌∷◌, ◌++◌, length, sym, ap, subst, ◌∙◌, arith}
 use Rattle.rsl_accounts.specs.Configuration.{Configuration}
 use Rattle.rsl_shard.specs.Restep.{BooksSeen}
 use Rattle.rsl_shard.specs.declared.moved.Move.{Move}
 use Rattle.rld_books.specs.Server.{replay}
-use Rattle.rld_log.specs.Frames.{Fits, HasPayloads, frames}
+use Rattle.rld_log.specs.Frames.{Fits, frames}
 use Rattle.rld_log.specs.Log.{Extends}
 use Rattle.rld_log.specs.Recording.{IsBeforeOrAfter, LeavesEither}
 use Rattle.rld_log.specs.declared.log.Ending.{Ending}
 use Rattle.rld_log.proofs.Callers.{whole_has}
 use Rattle.rld_spelling.specs.Moves.{moves_field}
 use Rattle.rld_spelling.specs.declared.moves.Counts.{Counts}
-use Rattle.rld_store.specs.Generations.{AreOfHistory, HasHistory, HasHistoryOr, counts_of}
+use Rattle.rld_store.specs.Generations.{HasHistoryOr}
 use Rattle.rld_store.specs.Standing.{EndsSo, IsUnsettled, LosesNothing, StandsFor}
 use Rattle.rld_store.specs.declared.store.End.{End}
 use Rattle.rld_store.specs.declared.store.End.TheVariants.{Settled, Unsettled}

@@ -1,11 +1,11 @@
 -- Which books a snapshot and its moves stand for: one state, whatever was read of it.
-use Rattle.std.proofs.Common.{◌≡◌, ℕ, ◌+◌, ◌<◌, ◌≤◌, ◌^◌, List, [], ◌∷◌, ◌++◌, Ok, Result, length, map, refl, sym, ap, subst, ◌∙◌, arith}
+use Rattle.std.proofs.Common.{◌≡◌, ℕ, ◌<◌, ◌^◌, List, [], ◌∷◌, ◌++◌, Ok, Result, map, refl, sym, ap, ◌∙◌, arith}
 use Rattle.std.specs.List.{AllByRecursion}
 use Rattle.rld_fields.specs.Field.{Field, IsRead}
 use Rattle.rld_fields.specs.declared.fault.Fault.{Fault}
 use Rattle.rsl_accounts.specs.Configuration.{Configuration}
 use Rattle.rsl_accounts.specs.Limits.{IsConfiguration}
-use Rattle.rsl_session.specs.Saved.{saved_book, saved_link, saved_links}
+use Rattle.rsl_session.specs.Saved.{saved_book}
 use Rattle.rsl_session.specs.declared.saved.SavedBook.{SavedBook}
 use Rattle.rsl_session.specs.Book.{Book}
 use Rattle.rsl_shard.specs.Restep.{BooksSeen}
@@ -19,7 +19,7 @@ use Rattle.rld_spelling.specs.Headers.{header_octets}
 use Rattle.rld_spelling.specs.Laws.{FewEnough}
 use Rattle.rld_spelling.specs.Moves.{moves_field}
 use Rattle.rld_spelling.specs.declared.moves.Counts.{Counts}
-use Rattle.rld_store.specs.Generations.{AreBatches, AreOfHistory, HasHistory, IsGeneration, IsSnapshot, counts_of, moves_in, running}
+use Rattle.rld_store.specs.Generations.{AreBatches, AreOfHistory, IsSnapshot, counts_of, moves_in, running}
 use Rattle.rld_store.specs.Laws.{FilesHaveOneState}
 use Rattle.rld_store.proofs.Batches.{replay_more}
 

@@ -1,6 +1,6 @@
 -- What a store stands for: a history, which its log has, and whose moves make its books of those
 -- with which its era opened.
-use Rattle.std.specs.Prelude.{◌≡◌, ◌⊎◌, ℕ, List, ◌++◌, length}
+use Rattle.std.specs.Prelude.{◌≡◌, ℕ, List, length}
 use Rattle.std.specs.List.{AllByRecursion}
 use Rattle.rsl_accounts.specs.Configuration.{Configuration}
 use Rattle.rsl_shard.specs.Restep.{BooksSeen}
@@ -13,7 +13,7 @@ use Rattle.rld_log.specs.Recording.{IsSettled, LeavesEither}
 use Rattle.rld_log.specs.declared.log.Ending.{Ending}
 use Rattle.rld_spelling.specs.Moves.{moves_field}
 use Rattle.rld_spelling.specs.declared.moves.Counts.{Counts}
-use Rattle.rld_store.specs.Generations.{AreOfHistory, HasHistory, HasHistoryOr, counts_of}
+use Rattle.rld_store.specs.Generations.{AreOfHistory, HasHistoryOr, counts_of}
 use Rattle.rld_store.specs.declared.store.End.{End}
 use Rattle.rld_store.specs.declared.store.End.TheVariants.{Settled, Unsettled}
 

@@ -1,11 +1,12 @@
 -- What a store has recorded, and why it did not record a batch.
-use Rattle.std.specs.Prelude.{ℕ, List}
+use Rattle.std.specs.Prelude.{ℕ, Bool, false, List, Result, Ok, Err}
 use Rattle.rsl_accounts.specs.Configuration.{Configuration}
 use Rattle.rsl_shard.specs.Restep.{BooksSeen}
 use Rattle.rsl_shard.specs.declared.moved.Move.{Move}
 use Rattle.rld_log.specs.declared.fault.LogFault.TheVariants as log_faults
 use Rattle.rld_log.specs.declared.log.Ending.{Ending}
 use Rattle.rld_spelling.specs.declared.moves.Counts.{Counts}
+use Rattle.rld_store.specs.Recorded.{is_last}
 use Rattle.rld_store.specs.Standing.{StandsFor}
 use Rattle.rld_store.specs.declared.fault.StoreFault.{StoreFault}
 use Rattle.rld_store.specs.declared.fault.StoreFault.TheVariants as store_faults
@@ -27,3 +28,8 @@ pub record HasRecorded (config : Configuration) (opening : List BooksSeen) (coun
 abbrev pub record_fault : StoreFault → RecordFault
 record_fault (store_faults.Log log_faults.Unsynced) = Ended
 record_fault _ = Failed
+
+-- whether a call of a store failed since a sync did
+abbrev pub is_unsynced : {T : Type 0} → Result T StoreFault → Bool
+is_unsynced (Ok value) = false
+is_unsynced (Err fault) = is_last (record_fault fault)

@@ -70,7 +70,9 @@ pub(crate) fn restore<L: Log>(
     ensures told { IsTrue (L.tells log.new) → IsTrue (L.tells log.old) }
     ensures server { IfOk result (λ restored. IsServerOf config.now restored.reading.books) }
 
-    // What is found is what the log has.
+    // What is found is what the frames have, and these are the log's.
+    ensures given { IfOk result (λ restored. (before : List (List ℕ)) → HasPayloads given.now.octets.items before →
+        IsFoundIn config.now before restored.reading.header restored.reading.books restored.reading.moves) }
     ensures found { IsTrue (L.tells log.new) → (before : List (List ℕ)) → HasPayloads (L.seen log.old) before →
         IfOk result (λ restored. IsFoundIn config.now before
         restored.reading.header restored.reading.books restored.reading.moves) }

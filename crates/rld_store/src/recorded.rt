@@ -5,11 +5,13 @@ use std::marker::Model;
 /// The decisions on a recorded batch, in the order of its moves. Only `Store::commit` makes one, so
 /// what is answered from it is on the disk.
 ///
-/// A contract also sees the batch and the books before it, from which the decisions follow.
+/// A contract also sees the batch and the books before it, from which the decisions follow, and the
+/// era in which the batch was recorded.
 #[derive(Drop)]
 pub struct Recorded {
     basis: Basis,
     decisions: Vec<Decision>,
+    era: u64,
 }
 
 impl Model for Recorded {
@@ -21,12 +23,14 @@ impl Model for Recorded {
       batch = inside.basis.batch;
       before = inside.basis.before;
       decisions = inside.decisions.items;
+      era = inside.era;
     } };
 
     ghost invariant = { λ inside. AreDecided (record {
       batch = inside.basis.batch;
       before = inside.basis.before;
       decisions = inside.decisions.items;
+      era = inside.era;
     }) };
 }
 
@@ -35,17 +39,22 @@ impl Recorded {
     ghost use Rattle.rld_books.specs.Server.{AreTakenIn, decisions_of};
     ghost use Rattle.rld_store.specs.Recorded.{AreDecided};
 
-    /// The decisions on a recorded batch.
-    pub(crate) fn new(basis: Basis, decisions: Vec<Decision>) -> Recorded
+    /// The decisions on a batch that was recorded in this era.
+    pub(crate) fn new(basis: Basis, decisions: Vec<Decision>, era: u64) -> Recorded
         requires taken { AreTakenIn basis.before basis.batch }
         requires decided { decisions.items ≡ decisions_of basis.before basis.batch }
         ensures { result ≡ record {
           batch = basis.batch;
           before = basis.before;
           decisions = decisions.items;
+          era = era;
         } }
     {
-        Recorded { basis, decisions }
+        Recorded {
+            basis,
+            decisions,
+            era,
+        }
     }
 
     /// The decisions, in the order of the batch's moves.

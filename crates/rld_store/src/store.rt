@@ -1,17 +1,19 @@
-ghost use Rattle.std.specs.Prelude.{◌≡◌, ◌⊎◌, ◌+◌, ℕ, List, [], ◌∷◌, ◌++◌, length, IsTrue, IsErrOf, IfErr, IfOk, OnErr, OnOk};
+ghost use Rattle.std.specs.Prelude.{◌≡◌, ◌⊎◌, ◌+◌, ℕ, false, List, [], ◌∷◌, ◌++◌, length, Err, IsTrue, IsErrOf, IfErr, IfOk, OnErr, OnOk};
 ghost use Rattle.std.specs.List.{All};
 ghost use Rattle.std.specs.Option.{option_map};
 ghost use Rattle.rld_books.specs.Saved.{IsServerOf, links_in, rows_in};
 ghost use Rattle.rld_books.specs.Server.{AreTakenIn, decisions_of, new_server, replay};
-ghost use Rattle.rld_log.specs.Frames.{Fits, frames};
+ghost use Rattle.rld_log.specs.Frames.{Fits, HasPayloads, frames};
 ghost use Rattle.rld_store.specs.Premises.{Only, Premise};
 ghost use Rattle.rld_log.specs.Recording.{IsSettled};
 ghost use Rattle.rld_log.specs.declared.log.Ending.{Ending as OneEnding};
 ghost use Rattle.rld_spelling.specs.Moves.{MoveFits, moves_field};
+ghost use Rattle.rld_store.specs.Beginning.{IsBegun};
 ghost use Rattle.rld_store.specs.Generations.{HasHistory, IsUnbegun, StandForHistory, counts_of};
-ghost use Rattle.rld_store.specs.Opening.{IsWhy, LeavesAsItWas};
-ghost use Rattle.rld_store.specs.Recorded.{AreDecided};
+ghost use Rattle.rld_store.specs.Opening.{IsFoundIn, IsWhy, LeavesAsItWas};
+ghost use Rattle.rld_store.specs.Recorded.{AreDecided, is_last};
 ghost use Rattle.rld_store.specs.Standing.{EndsSo, StandsFor};
+ghost use Rattle.rld_store.specs.Stored.{is_unsynced, record_fault};
 ghost use Rattle.rld_store.specs.declared.store.End.TheVariants.{Settled as settled, Unsettled as unsettled};
 ghost use Rattle.rsl_accounts.specs.Configuration.{Configuration};
 ghost use Rattle.rsl_session.specs.Saved.{saved_links};
@@ -25,7 +27,7 @@ use crate::opening::{Restored, restore};
 use crate::reading::Reading;
 use crate::recorded::Recorded;
 use rld_books::ServerBooks;
-use rld_log::{Frames, Log, mend, record};
+use rld_log::{Frames, Log, LogFault, mend, record};
 use rld_spelling::{Counts, Header, SpellFault};
 use rsl_accounts::Config;
 use rsl_session::SavedLink;
@@ -43,14 +45,16 @@ pub enum End {
     Unsettled,
 }
 
-/// The books of a server, and the log of their moves.
+/// The books of a server, and the log of their moves. It is over once a sync has failed.
 #[derive(Drop)]
 pub struct Store<L: Log> {
     pub(crate) log: L,
+    pub(crate) header: Header,
     pub(crate) counts: Counts,
     pub(crate) books: ServerBooks,
     pub(crate) whole: usize,
     pub(crate) end: End,
+    pub(crate) is_over: bool,
 }
 
 /// A store whose log was opened, and what was found in it.
@@ -79,6 +83,14 @@ impl<L: Log> Store<L> {
     ) -> Result<Store<L>, Refused<L>>
         ensures told { IfOk result (λ store. IsTrue (L.tells store.log) → IsTrue (L.tells log)) }
         ensures refused { IfErr result (λ refused. IsTrue (L.tells refused.log) → IsTrue (L.tells log)) }
+
+        ensures header { IfOk result (λ store. store.header ≡ header) }
+        ensures over { IfOk result (λ store. store.is_over ≡ false) }
+
+        // The log has this header and a snapshot of new books.
+        ensures begun { IfOk result (λ store. IsTrue (L.tells store.log) →
+            Only (L.seen log) (L.may_leave log) →
+            IsBegun store.counts header (new_server config.now) (L.seen store.log) (L.may_leave store.log) store.whole) }
 
         // The store stands for a history of no moves.
         ensures stands { IfOk result (λ store. IsTrue (L.tells store.log) →
@@ -118,6 +130,13 @@ impl<L: Log> Store<L> {
         ensures told { IfOk result (λ store. IsTrue (L.tells store.log) → IsTrue (L.tells log)) }
         ensures refused { IfErr result (λ refused. IsTrue (L.tells refused.log) → IsTrue (L.tells log)) }
         ensures books { IfOk result (λ store. store.books ≡ books) }
+        ensures header { IfOk result (λ store. store.header ≡ header) }
+        ensures over { IfOk result (λ store. store.is_over ≡ false) }
+
+        // The log has this header and a snapshot of these books.
+        ensures begun { IfOk result (λ store. IsTrue (L.tells store.log) →
+            Only (L.seen log) (L.may_leave log) →
+            IsBegun store.counts header books (L.seen store.log) (L.may_leave store.log) store.whole) }
 
         // The store stands for a history of no moves after these books.
         ensures stands { IfOk result (λ store. IsTrue (L.tells store.log) →
@@ -137,10 +156,12 @@ impl<L: Log> Store<L> {
         match begin_log(alloc, &mut log, header, counts, &books) {
             Ok(whole) => Ok(Store {
                 log,
+                header,
                 counts,
                 books,
                 whole,
                 end: End::Settled,
+                is_over: false,
             }),
             Err(fault) => Err(Refused { log, fault }),
         }
@@ -160,7 +181,13 @@ impl<L: Log> Store<L> {
         requires { IsTrue (L.tells log) → frames.now.octets.items ≡ L.seen log }
         ensures told { IfOk result (λ opened. IsTrue (L.tells opened.store.log) → IsTrue (L.tells log)) }
         ensures server { IfOk result (λ opened. IsServerOf config.now opened.store.books) }
+        ensures header { IfOk result (λ opened. opened.store.header ≡ opened.header) }
+        ensures over { IfOk result (λ opened. opened.store.is_over ≡ false) }
         ensures refused { IfErr result (λ refused. IsTrue (L.tells refused.log) → IsTrue (L.tells log)) }
+
+        // What was found is what the frames have, whatever the log tells.
+        ensures given { IfOk result (λ opened. (before : List (List ℕ)) → HasPayloads frames.now.octets.items before →
+            IsFoundIn config.now before opened.header opened.store.books opened.moves) }
 
         // The store stands for the history of the log.
         ensures stands { IfOk result (λ opened. IsTrue (L.tells opened.store.log) →
@@ -207,10 +234,12 @@ impl<L: Log> Store<L> {
                 } = reading;
                 let store = Store {
                     log,
+                    header,
                     counts,
                     books,
                     whole,
                     end: End::Settled,
+                    is_over: false,
                 };
                 Ok(Opened {
                     store,
@@ -230,9 +259,11 @@ impl<L: Log> Store<L> {
     fn settle(&mut self) -> Result<(), StoreFault>
         ensures told { IsTrue (L.tells self.new.log) → IsTrue (L.tells self.old.log) }
         ensures books { self.new.books ≡ self.old.books }
+        ensures header { self.new.header ≡ self.old.header }
         ensures counts { self.new.counts ≡ self.old.counts }
         ensures whole { self.new.whole ≡ self.old.whole }
         ensures settled { OnOk result (self.new.end ≡ settled) }
+        ensures over { self.old.is_over ≡ false → self.new.is_over ≡ is_unsynced result }
         ensures fitting { IsErrOf result StoreFault.Unfit → ⊥ }
         ensures ends { IsTrue (L.tells self.new.log) → (before : List (List ℕ)) (unanswered : List ℕ) →
             self.old.whole ≡ length (frames before) →
@@ -241,11 +272,13 @@ impl<L: Log> Store<L> {
     {
         match self.end {
             End::Settled => Ok(()),
-            End::Unsettled => {
-                mend(&mut self.log, self.whole)?;
-                self.end = End::Settled;
-                Ok(())
-            }
+            End::Unsettled => match mend(&mut self.log, self.whole) {
+                Ok(()) => {
+                    self.end = End::Settled;
+                    Ok(())
+                }
+                Err(fault) => Err(noted(&mut self.is_over, fault)),
+            },
         }
     }
 
@@ -255,11 +288,13 @@ impl<L: Log> Store<L> {
         requires fits { Fits payload.now }
         ensures told { IsTrue (L.tells self.new.log) → IsTrue (L.tells self.old.log) }
         ensures books { self.new.books ≡ self.old.books }
+        ensures header { self.new.header ≡ self.old.header }
         ensures counts { self.new.counts ≡ self.old.counts }
         ensures whole { OnOk result (self.new.whole ≡ whole) }
         ensures unadded { OnErr result (self.new.whole ≡ self.old.whole) }
         ensures settled { OnOk result (self.new.end ≡ settled) }
         ensures unsettled { OnErr result (self.new.end ≡ unsettled) }
+        ensures over { self.old.is_over ≡ false → self.new.is_over ≡ is_unsynced result }
         ensures fitting { IsErrOf result StoreFault.Unfit → ⊥ }
         ensures added { IsTrue (L.tells self.new.log) → (before : List (List ℕ)) →
             IsSettled (L.seen self.old.log) (L.may_leave self.old.log) before → OnOk result
@@ -269,10 +304,14 @@ impl<L: Log> Store<L> {
             (EndsSo unsettled L.tears (L.seen self.new.log) (L.may_leave self.new.log) before payload.now) }
     {
         self.end = End::Unsettled;
-        record(alloc, &mut self.log, payload)?;
-        self.end = End::Settled;
-        self.whole = whole;
-        Ok(())
+        match record(alloc, &mut self.log, payload) {
+            Ok(()) => {
+                self.end = End::Settled;
+                self.whole = whole;
+                Ok(())
+            }
+            Err(fault) => Err(noted(&mut self.is_over, fault)),
+        }
     }
 
     /// The payload of a batch that can be made and written, and the length of the log's frames with
@@ -283,6 +322,7 @@ impl<L: Log> Store<L> {
         ensures spelled { IfOk result (λ found. found.0.items ≡ (moves_field self.now.counts).spell batch.now) }
         ensures short { IfOk result (λ found. Fits found.0.items) }
         ensures whole { IfOk result (λ found. found.1 ≡ self.now.whole + (20 + length found.0.items)) }
+        ensures unlogged { is_unsynced result ≡ false }
         ensures unfit { IsErrOf result StoreFault.Unfit →
             (AreTakenIn self.now.books batch.now → All (MoveFits self.now.counts) batch.now → ⊥) }
     {
@@ -310,10 +350,12 @@ impl<L: Log> Store<L> {
     /// `LogFault::Unsynced`, give the store up.
     pub fn commit(&mut self, alloc: Global, batch: Vec<Move>) -> Result<Recorded, StoreFault>
         ensures told { IsTrue (L.tells self.new.log) → IsTrue (L.tells self.old.log) }
+        ensures header { self.new.header ≡ self.old.header }
         ensures counts { self.new.counts ≡ self.old.counts }
 
         // The decisions are those of the books at that point, and the books have made the moves.
         ensures batch { IfOk result (λ recorded. recorded.batch ≡ batch.items) }
+        ensures era { IfOk result (λ recorded. recorded.era ≡ self.old.header.era) }
         ensures before { IfOk result (λ recorded. recorded.before ≡ self.old.books) }
         ensures decided { IfOk result AreDecided }
         ensures decisions { IfOk result (λ recorded.
@@ -332,6 +374,7 @@ impl<L: Log> Store<L> {
             (StandsFor config opening self.new.counts L.tears settled (L.seen self.new.log) (L.may_leave self.new.log)
             self.new.whole self.new.books (history ++ batch.items) batch.items) }
         ensures settled { OnOk result (self.new.end ≡ settled) }
+        ensures over { self.old.is_over ≡ false → self.new.is_over ≡ is_unsynced result }
 
         // After a fault the log has the history, and at its end perhaps an unanswered batch: this
         // one, or an earlier one.
@@ -349,7 +392,8 @@ impl<L: Log> Store<L> {
         self.settle()?;
         self.add(alloc, &payload, whole)?;
         let basis = Basis::of(&batch, &self.books);
-        Ok(Recorded::new(basis, self.books.make_all(batch, decisions)))
+        let decisions = self.books.make_all(batch, decisions);
+        Ok(Recorded::new(basis, decisions, self.header.era))
     }
 
     // ---- the next generation
@@ -365,7 +409,13 @@ impl<L: Log> Store<L> {
         ensures books { self.new.books ≡ self.old.books }
         ensures counts { self.new.counts ≡ self.old.counts }
         ensures older { IfOk result (λ older. older ≡ self.old.log) }
+        ensures header { OnOk result (self.new.header ≡ header) }
+        ensures over { self.new.is_over ≡ self.old.is_over }
         ensures err { OnErr result (self.new ≡ self.old) }
+
+        // The next log has this header and a snapshot of the books.
+        ensures begun { IsTrue (L.tells self.new.log) → Only (L.seen next) (L.may_leave next) → OnOk result
+            (IsBegun self.new.counts header self.new.books (L.seen self.new.log) (L.may_leave self.new.log) self.new.whole) }
 
         // The store stands for the same history, by the next log alone.
         ensures stands { IsTrue (L.tells self.new.log) → Only (L.seen next) (L.may_leave next) →
@@ -388,6 +438,7 @@ impl<L: Log> Store<L> {
         let mut next = next;
         match begin_log(alloc, &mut next, header, self.counts, &self.books) {
             Ok(whole) => {
+                self.header = header;
                 self.whole = whole;
                 self.end = End::Settled;
                 Ok(mem::replace(&mut self.log, next))
@@ -421,6 +472,13 @@ impl<L: Log> Store<L> {
         &self.books
     }
 
+    /// The header of the log's generation.
+    pub fn header(&self) -> Header
+        ensures { result ≡ self.now.header }
+    {
+        self.header
+    }
+
     /// The log, borrowed.
     pub fn log(&self) -> &L
         ensures { result.now ≡ self.now.log }
@@ -434,5 +492,19 @@ impl<L: Log> Store<L> {
     {
         let Store { log, .. } = self;
         log
+    }
+}
+
+/// The fault of a store whose log has this one: it is over if a sync failed.
+fn noted(is_over: &mut bool, fault: LogFault) -> StoreFault
+    ensures fault { result ≡ StoreFault.Log fault }
+    ensures over { is_over.old ≡ false → is_over.new ≡ is_last (record_fault result) }
+{
+    match fault {
+        LogFault::Unsynced => {
+            *is_over = true;
+            StoreFault::Log(LogFault::Unsynced)
+        }
+        _ => StoreFault::Log(fault),
     }
 }

@@ -1,13 +1,16 @@
 use Rattle.std.proofs.Common.{◌≡◌, ◌++◌, ◌∷◌, [], List, length, refl, ap, sym, subst, ◌∙◌, arith}
+use Rattle.std.specs.Prelude.{Ok, Err}
 use Rattle.std.specs.Vec.Iter.{into_iter_items}
 use Rattle.rsl_shard.specs.declared.moved.Move.{Move}
 use Rattle.rsl_shard.specs.Restep.{BooksSeen}
+use Rattle.rld_store.specs.Recorded.{is_last}
+use Rattle.rld_store.specs.Stored.{is_unsynced}
 use Rattle.rld_store.specs.declared.fault.RecordFault.TheVariants.{Failed, Ended}
 use Rattle.rld_lives.specs.Leaving.{batches_of}
-use Rattle.rld_lives.specs.Life.{AreOutcomes, Outcome}
-use Rattle.rld_lives.proofs.Lasting.{comes, next_ended, next_failed, next_recorded, none_next}
+use Rattle.rld_lives.specs.Life.{AreOutcomes, Outcome, has_ended}
+use Rattle.rld_lives.proofs.Lasting.{comes, ended_more, next_ended, next_failed, next_recorded, none_next}
 use Rattle.rld_lives.specs.declared.living.Step.{Step}
-use Rattle.rld_lives.proofs.Leaving.{GoesOn, goes_on, goes_recorded, goes_unrecorded, leaves}
+use Rattle.rld_lives.proofs.Leaving.{GoesOn, goes_on, goes_recorded, goes_unrecorded, stands_after}
 use Rattle.rld_lives.proofs.living.live.Goals as goal
 
 none_of : (left : List Step) → length left ≡ 0 → length (batches_of left) ≡ 0
@@ -29,6 +32,7 @@ loop-step-init g c =
       told = λ told. told;
       out = λ later are. subst (λ (o : List Outcome). AreOutcomes c.args.store.now.books batches (o ++ later)) (sym c.in_ok-outcomes.ensures.items)
           (subst (λ (b : List (List Move)). AreOutcomes c.args.store.now.books b later) (sym all) are);
+      over = λ none. (none, ap has_ended c.in_ok-outcomes.ensures.items);
       goes = λ told config opening history so. record {
         so_far = history;
         unanswered = [];
@@ -59,6 +63,7 @@ loop-step-preserved-in-Ok g c =
       out = next_recorded c.args.store.now.books was.books store.books batches rest batch outcomes more
           (subst (λ (b : List (List Move)). (later : List Outcome) → AreOutcomes was.books b later → AreOutcomes c.args.store.now.books batches (outcomes ++ later)) next now.out)
           c.in-Ok.recorded c.push_reserved.ensures.items c.in-Ok.ensures.decisions c.in-Ok.ensures.books;
+      over = λ none. (c.commit.ensures.over (now.over none).0 ∙ ap is_unsynced c.in-Ok.is, ended_more outcomes more (Ok c.in-Ok.recorded) c.push_reserved.ensures.items (now.over none).1);
       goes = λ told config opening history so.
           goes_recorded config opening was.counts store.counts g.L.Log.tears was.end store.end (g.L.Log.seen was.log) (g.L.Log.seen store.log) (g.L.Log.may_leave was.log) (g.L.Log.may_leave store.log) was.whole store.whole
           was.books store.books history batches outcomes more batch rest
@@ -89,6 +94,10 @@ loop-step-preserved g c =
       out = next_failed c.args.store.now.books was.books store.books batches rest batch outcomes more
           (subst (λ (b : List (List Move)). (later : List Outcome) → AreOutcomes was.books b later → AreOutcomes c.args.store.now.books batches (outcomes ++ later)) next now.out)
           c.push_reserved-in-Failed.ensures.items c.in-Err.ensures.err;
+      over = λ none. (
+        c.commit.ensures.over (now.over none).0 ∙ ap is_unsynced c.in-Err.is ∙ ap is_last (sym c.from.ensures ∙ c.in-Failed.is),
+        ended_more outcomes more (Err Failed) c.push_reserved-in-Failed.ensures.items (now.over none).1,
+      );
       goes = λ told config opening history so.
           goes_unrecorded config opening was.counts store.counts g.L.Log.tears was.end store.end (g.L.Log.seen was.log) (g.L.Log.seen store.log) (g.L.Log.may_leave was.log) (g.L.Log.may_leave store.log) was.whole store.whole
           was.books store.books history batches outcomes more batch rest
@@ -115,6 +124,7 @@ loop-step-preserved-in-Roll g c =
       room = omega (arith, now.room, long);
       told = λ told. now.told (c.roll_on.ensures.told told);
       out = λ later are. now.out later (subst (λ (b : List (List Move)). AreOutcomes was.books b later) (sym next) (subst (λ (b : List BooksSeen). AreOutcomes b rest later) c.roll_on.ensures.books are));
+      over = λ none. (c.roll_on.ensures.over ∙ (now.over none).0, (now.over none).1);
       goes = λ told config opening history so.
           goes_on config opening was.counts store.counts g.L.Log.tears was.end store.end (g.L.Log.seen was.log) (g.L.Log.seen store.log) (g.L.Log.may_leave was.log) (g.L.Log.may_leave store.log) was.whole store.whole
           was.books store.books history batches outcomes rest (c.roll_on.ensures.stands told config opening)
@@ -145,13 +155,22 @@ returns-in-Ended-clause-lived g c = λ told config opening history so.
     let out : AreOutcomes c.args.store.now.books batches more = next_ended c.args.store.now.books was.books store.books batches rest batch outcomes more
     (subst (λ (b : List (List Move)). (later : List Outcome) → AreOutcomes was.books b later → AreOutcomes c.args.store.now.books batches (outcomes ++ later)) next c.loop-step.invariant.out)
     c.push_reserved-in-Ended.ensures.items in
-    leaves config opening store.counts g.L.Log.tears store.end (g.L.Log.seen store.log) (g.L.Log.may_leave store.log) store.whole store.books history batches more rest
+    stands_after config opening store.counts g.L.Log.tears store.end (g.L.Log.seen store.log) (g.L.Log.may_leave store.log) store.whole store.books history batches more rest
     (goes_unrecorded config opening was.counts store.counts g.L.Log.tears was.end store.end (g.L.Log.seen was.log) (g.L.Log.seen store.log) (g.L.Log.may_leave was.log) (g.L.Log.may_leave store.log) was.whole store.whole
     was.books store.books history batches outcomes more batch rest
     (subst (λ (b : List (List Move)). GoesOn config opening was.counts g.L.Log.tears was.end (g.L.Log.seen was.log) (g.L.Log.may_leave was.log) was.whole was.books history batches outcomes b) next
     (c.loop-step.invariant.goes (c.commit.ensures.told told) config opening history so))
     Ended c.push_reserved-in-Ended.ensures.items (c.in-Err.ensures.left told config opening))
     (subst (λ (s : List BooksSeen). AreOutcomes s batches more) so.replayed out)
+
+pub returns-in-Ended-clause-over : goal.returns-in-Ended-clause-over
+returns-in-Ended-clause-over g c = λ none.
+    let now = c.loop-step.invariant.over none in
+    c.commit.ensures.over now.0 ∙ ap is_unsynced c.in-Err.is ∙ ap is_last (sym c.from.ensures ∙ c.in-Ended.is)
+    ∙ sym (ended_more c.loop-step.outcomes.items c.push_reserved-in-Ended.new.self.items (Err Ended) c.push_reserved-in-Ended.ensures.items now.1)
+
+pub returns-clause-over : goal.returns-clause-over
+returns-clause-over g c = λ none. (c.loop-step.invariant.over none).0 ∙ sym (c.loop-step.invariant.over none).1
 
 pub returns-clause-outcomes : goal.returns-clause-outcomes
 returns-clause-outcomes g c =
@@ -166,6 +185,6 @@ returns-clause-lived g c = λ told config opening history so.
     let store = c.loop-step.store in
     let out : AreOutcomes c.args.store.now.books batches outcomes = none_next c.args.store.now.books store.books batches rest outcomes c.loop-step.invariant.out
     (none_of (into_iter_items c.loop-step.step-iterator) (omega (arith, c.loop-step.invariant.len, c.in-None.ensures.steps.0))) in
-    leaves config opening store.counts g.L.Log.tears store.end (g.L.Log.seen store.log) (g.L.Log.may_leave store.log) store.whole store.books history batches outcomes rest
+    stands_after config opening store.counts g.L.Log.tears store.end (g.L.Log.seen store.log) (g.L.Log.may_leave store.log) store.whole store.books history batches outcomes rest
     (c.loop-step.invariant.goes told config opening history so)
     (subst (λ (s : List BooksSeen). AreOutcomes s batches outcomes) so.replayed out)

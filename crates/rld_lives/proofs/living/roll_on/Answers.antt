@@ -1,4 +1,4 @@
-use Rattle.std.proofs.Common.{◌≡◌, [], inl, inr, sym, subst}
+use Rattle.std.proofs.Common.{inl, inr, sym, subst}
 use Rattle.std.specs.Prelude.{IsTrue, Result, Ok, Err, OnErr, OnOk}
 use Rattle.rld_store.specs.Standing.{StandsFor}
 use Rattle.rld_lives.proofs.living.roll_on.Goals as goal

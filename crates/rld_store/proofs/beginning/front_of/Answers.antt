@@ -1,4 +1,4 @@
-use Rattle.std.proofs.Common.{arith, ◌∙◌, ◌++◌, ◌≡◌, List, ap, map, ℕ}
+use Rattle.std.proofs.Common.{arith, ◌∙◌, ◌++◌, List, ap, map, ℕ}
 use Rattle.rsl_session.specs.Saved.{saved_book}
 use Rattle.rsl_session.specs.declared.saved.SavedBook.{SavedBook}
 use Rattle.rld_spelling.specs.Headers.{header_octets}

@@ -1,4 +1,4 @@
-use Rattle.std.proofs.Common.{◌∷◌, ℕ, List, Bor, map, sym, subst}
+use Rattle.std.proofs.Common.{ℕ, List, Bor, map, sym, subst}
 use Rattle.rld_spelling.specs.declared.moves.Counts.{Counts}
 use Rattle.rld_store.specs.Generations.{counts_of}
 use Rattle.rld_store.specs.Opening.{IsWhyUnread}

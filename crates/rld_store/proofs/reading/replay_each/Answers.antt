@@ -1,4 +1,4 @@
-use Rattle.std.proofs.Common.{◌≡◌, ◌+◌, ℕ, List, [], ◌∷◌, Bor, Some, drop, length, map, sym, ap, subst, ◌∙◌, arith, append-nil}
+use Rattle.std.proofs.Common.{◌+◌, ℕ, List, [], ◌∷◌, Bor, Some, drop, length, map, sym, ap, subst, ◌∙◌, arith, append-nil}
 use Rattle.std.proofs.lemmas.List.{drop_all, length-map}
 use Rattle.rld_books.specs.Saved.{IsServerOf}
 use Rattle.rld_books.proofs.Callers.{replay_is_of}

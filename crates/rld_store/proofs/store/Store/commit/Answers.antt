@@ -24,8 +24,8 @@ returns-clause-recorded g c = λ told config opening history unanswered so.
     c.in_ok-add.ensures.whole ∙ c.in_ok-payload.ensures.whole ∙ ap (λ (p : List ℕ). c.args.self.now.whole + (20 + length p)) (sym c.deref-2.ensures.value) in
     stands_more config opening g.L.Log.tears counts c.add.new.self.counts c.args.self.now.end
     (g.L.Log.seen c.args.self.now.log) (g.L.Log.seen c.add.new.self.log) (g.L.Log.may_leave c.args.self.now.log) (g.L.Log.may_leave c.add.new.self.log)
-    c.args.self.now.whole c.add.new.self.whole c.args.self.now.books c.make_all.new.self history unanswered batch payload so
+    c.args.self.now.whole c.add.new.self.whole c.args.self.now.books c.make_all-decisions.new.self history unanswered batch payload so
     (c.add.ensures.counts ∙ c.settle.ensures.counts) short size_is
-    (c.make_all.ensures.books ∙ ap (λ (b : List BooksSeen). replay b batch) (c.add.ensures.books ∙ c.settle.ensures.books)) spelled fit
+    (c.make_all-decisions.ensures.books ∙ ap (λ (b : List BooksSeen). replay b batch) (c.add.ensures.books ∙ c.settle.ensures.books)) spelled fit
     (λ before other size ends. c.in_ok-add.ensures.added told before (subst (λ (e : End). EndsSo e g.L.Log.tears (g.L.Log.seen c.settle.new.self.log) (g.L.Log.may_leave c.settle.new.self.log) before other)
     c.in_ok-settle.ensures.settled (c.settle.ensures.ends told_settle before other size ends)))

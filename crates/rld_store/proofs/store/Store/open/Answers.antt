@@ -1,4 +1,3 @@
-use Rattle.std.proofs.Common.{[]}
 use Rattle.rld_store.proofs.Histories.{opened_found, opened_stands, still_history}
 use Rattle.rld_store.proofs.store.Store.open.Goals as goal
 
