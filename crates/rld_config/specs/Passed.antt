@@ -4,7 +4,7 @@ use Rattle.std.specs.List.{list_any}
 use Rattle.std.specs.Option.{option_or, option_and_then}
 use Rattle.toml.specs.Data.{Data, array, table, Members, no_members, member}
 use Rattle.rsl_accounts.specs.declared.field.Field.{Field}
-use Rattle.rsl_accounts.specs.declared.field.Field.TheVariants.{Trusted as trusted, Disconnect as disconnect, Disabled as disabled, Reply as reply, Profile as profile, PortLimit as port_limit, Client as client, Account as account}
+use Rattle.rsl_accounts.specs.declared.field.Field.TheVariants.{Trusted as trusted, Disconnect as disconnect, Disabled as disabled, Reply as reply, Profile as profile, PortLimit as port_limit, Station as station, DelayTime as delay_time, Client as client, Account as account}
 use Rattle.rsl_accounts.specs.declared.part.Part.{Part}
 use Rattle.rsl_accounts.specs.declared.part.Part.TheVariants.{Head, Client, Account}
 use Rattle.rsl_accounts.specs.Field.{field_key}
@@ -16,7 +16,7 @@ use Rattle.rld_config.specs.declared.passed.PassedOver.{PassedOver}
 abbrev pub is_of_version_3 : (name : List ℕ) → Bool
 is_of_version_3 name =
     list_any (λ field. bytes_eq name (field_key field))
-    (trusted ∷ disconnect ∷ disabled ∷ reply ∷ profile ∷ port_limit ∷ [])
+    (trusted ∷ disconnect ∷ disabled ∷ reply ∷ profile ∷ port_limit ∷ station ∷ delay_time ∷ [])
 
 -- a name that no key of the table has, or one that version 3 alone follows
 abbrev pub is_passed_over : Part → (name : List ℕ) → Bool

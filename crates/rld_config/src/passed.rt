@@ -137,6 +137,8 @@ fn is_of_version_3(name: &str) -> bool
         Field::Reply,
         Field::Profile,
         Field::PortLimit,
+        Field::Station,
+        Field::DelayTime,
     ]
     .iter()
     .any(|field| name == field.key())

@@ -1,6 +1,6 @@
 -- The line of a move: `FILE NUMBER MOMENT MOVE KEY=VALUE .. -> DECISION`, with one space between
 -- the words and a line feed at the end.
-use Rattle.std.specs.Prelude.{◌≡◌, ℕ, ◌+◌, List, [], ◌∷◌, ◌++◌, length, Option, None, Some, codes, slice_get}
+use Rattle.std.specs.Prelude.{◌≡◌, ℕ, ◌+◌, List, [], ◌∷◌, ◌++◌, length, nat_eq, if◌then◌else◌, Option, None, Some, codes, slice_get}
 use Rattle.std.specs.Fmt.{decimal}
 use Rattle.std.specs.Option.{option_map_or}
 use Rattle.rsl_accounts.specs.Configuration.{Configuration}
@@ -66,23 +66,35 @@ abbrev pub account_word : Configuration → (account : ℕ) → List ℕ
 account_word config account = word (codes "account") (escaped (account_name config account))
 
 -- an ask, from its verb on
-unfoldable pub ask_text : Configuration → (account : ℕ) → Key → Nas → List ℕ
-ask_text config account key nas =
-    codes "ask" ++ (account_word config account ++ (nas_words config nas ++ key_words key))
+unfoldable pub ask_text : Configuration → (account : ℕ) → Key → Nas
+    → (station : Option (List ℕ)) → List ℕ
+ask_text config account key nas station =
+    codes "ask" ++ (account_word config account ++ (nas_words config nas ++ (key_words key
+    ++ word_if (codes "station") escaped station)))
+
+-- what an alive says of its session
+abbrev pub session_words : (session : List ℕ) → (bundle : Option (List ℕ)) → (class : Option ℕ)
+    → (station : Option (List ℕ)) → List ℕ
+session_words session bundle class station =
+    word (codes "session") (escaped session) ++ (word_if (codes "bundle") escaped bundle
+    ++ (word_if (codes "class") decimal class ++ word_if (codes "station") escaped station))
 
 -- an own move, from its verb on
 abbrev pub act_text : Configuration → (account : ℕ) → Act → List ℕ
-act_text config account (acts.Ask key nas) = ask_text config account key nas
-act_text config account (acts.Alive nas session bundle class) =
+act_text config account (acts.Ask key nas station) = ask_text config account key nas station
+act_text config account (acts.Alive nas session bundle class station) =
     codes "alive" ++ (account_word config account ++ (nas_words config nas
-    ++ (word (codes "session") (escaped session) ++ (word_if (codes "bundle") escaped bundle
-    ++ word_if (codes "class") decimal class))))
+    ++ session_words session bundle class station))
 act_text config account (acts.Stop nas session) =
     codes "stop" ++ (account_word config account ++ (nas_words config nas
     ++ word (codes "session") (escaped session)))
 -- not own moves: no log has these
-act_text config account (acts.Sweep nas) = []
+act_text config account (acts.Sweep nas delay) = []
 act_text config account acts.Tick = []
+
+-- by how many seconds a restart was told late, if it was
+abbrev pub delay_word : ℕ → List ℕ
+delay_word delay = if nat_eq delay 0 then [] else word (codes "delay") (decimal delay)
 
 abbrev pub note_words : Configuration → Note → List ℕ
 note_words config note =
@@ -92,13 +104,14 @@ note_words config note =
 -- a move, from its verb on
 unfoldable pub move_text : Configuration → Move → List ℕ
 move_text config (Own account event) = act_text config account event.act
-move_text config (Sweep moment nas) = codes "restart" ++ nas_words config nas
+move_text config (Sweep moment nas delay) =
+    codes "restart" ++ (nas_words config nas ++ delay_word delay)
 move_text config (Tick moment) = codes "tick"
 move_text config (Stray moment note) = codes "stray" ++ note_words config note
 
 abbrev pub moment_of : Move → ℕ
 moment_of (Own account event) = event.moment
-moment_of (Sweep moment nas) = moment
+moment_of (Sweep moment nas delay) = moment
 moment_of (Tick moment) = moment
 moment_of (Stray moment note) = moment
 

@@ -7,8 +7,10 @@ ghost use Rattle.rld_lines.specs.Lines.{
   act_text,
   ask_text,
   authenticator_word,
+  delay_word,
   key_words,
   move_text,
+  session_words,
   name_words,
   nas_words,
   note_words,
@@ -121,12 +123,12 @@ fn push_account(out: &mut Vec<u8>, config: &Config, account: u32) -> Result<(), 
     push_octets_word(out, "account", config.entry(account).name.as_bytes())
 }
 
-/// Writes the word of a bundle, if there is one.
-fn push_bundle(out: &mut Vec<u8>, bundle: &Option<Octets>) -> Result<(), AllocError>
-    ensures { OnOk result (out.new.items ≡ out.old.items ++ word_if (codes "bundle") escaped bundle.now) }
+/// Writes a word whose value is octets, if there are any.
+fn push_octets_if(out: &mut Vec<u8>, key: &str, octets: &Option<Octets>) -> Result<(), AllocError>
+    ensures { OnOk result (out.new.items ≡ out.old.items ++ word_if key.now escaped octets.now) }
 {
-    match bundle {
-        Some(bundle) => push_octets_word(out, "bundle", bundle.as_slice()),
+    match octets {
+        Some(octets) => push_octets_word(out, key, octets.as_slice()),
         None => Ok(()),
     }
 }
@@ -149,17 +151,35 @@ fn push_ask(
     account: u32,
     key: &Key,
     nas: &Nas,
+    station: &Option<Octets>,
 ) -> Result<(), AllocError>
     requires account { account < length config.now.accounts }
     requires client { nas.now.client < length config.now.clients }
-    ensures { OnOk result
-        (out.new.items ≡ out.old.items ++ ask_text config.now account key.now nas.now) }
+    ensures { OnOk result (out.new.items ≡
+        out.old.items ++ ask_text config.now account key.now nas.now station.now) }
 {
     out.extend_from_slice(b"ask")?;
     push_account(out, config, account)?;
     push_nas(out, config, nas)?;
     push_request(out, key)?;
-    Ok(())
+    push_octets_if(out, "station", station)
+}
+
+/// Writes what an alive says of its session.
+fn push_session(
+    out: &mut Vec<u8>,
+    session: &Octets,
+    bundle: &Option<Octets>,
+    class: Option<u64>,
+    station: &Option<Octets>,
+) -> Result<(), AllocError>
+    ensures { OnOk result (out.new.items ≡
+        out.old.items ++ session_words session.now bundle.now class station.now) }
+{
+    push_octets_word(out, "session", session.as_slice())?;
+    push_octets_if(out, "bundle", bundle)?;
+    push_class(out, class)?;
+    push_octets_if(out, "station", station)
 }
 
 /// Writes an own move, from its verb on.
@@ -174,19 +194,18 @@ fn push_act(
     ensures { OnOk result (out.new.items ≡ out.old.items ++ act_text config.now account act.now) }
 {
     match act {
-        Act::Ask { key, nas } => push_ask(out, config, account, key, nas),
+        Act::Ask { key, nas, station } => push_ask(out, config, account, key, nas, station),
         Act::Alive {
             nas,
             session,
             bundle,
             class,
+            station,
         } => {
             out.extend_from_slice(b"alive")?;
             push_account(out, config, account)?;
             push_nas(out, config, nas)?;
-            push_octets_word(out, "session", session.as_slice())?;
-            push_bundle(out, bundle)?;
-            push_class(out, *class)
+            push_session(out, session, bundle, *class, station)
         }
         Act::Stop { nas, session } => {
             out.extend_from_slice(b"stop")?;
@@ -209,6 +228,17 @@ fn push_note(out: &mut Vec<u8>, config: &Config, note: &Note) -> Result<(), Allo
     push_octets_word(out, "session", note.session.as_slice())
 }
 
+/// Writes by how many seconds a restart was told late, if it was.
+fn push_delay(out: &mut Vec<u8>, delay: u64) -> Result<(), AllocError>
+    ensures { OnOk result (out.new.items ≡ out.old.items ++ delay_word delay) }
+{
+    if delay == 0 {
+        Ok(())
+    } else {
+        push_number_word(out, "delay", delay)
+    }
+}
+
 /// Writes a move, from its verb on.
 #[tactic(auto, unfolding(crate::specs::Lines::move_text))]
 pub(crate) fn push_move(out: &mut Vec<u8>, config: &Config, moved: &Move) -> Result<(), AllocError>
@@ -219,9 +249,10 @@ pub(crate) fn push_move(out: &mut Vec<u8>, config: &Config, moved: &Move) -> Res
         Move::Own { account, event } => {
             push_act(out, config, *account, event.moment, &event.act)
         }
-        Move::Sweep { nas, .. } => {
+        Move::Sweep { nas, delay, .. } => {
             out.extend_from_slice(b"restart")?;
-            push_nas(out, config, nas)
+            push_nas(out, config, nas)?;
+            push_delay(out, *delay)
         }
         Move::Tick { .. } => out.extend_from_slice(b"tick"),
         Move::Stray { note, .. } => {

@@ -1,5 +1,5 @@
 -- Two frames at the front of octets.
-use Rattle.std.proofs.Common.{◌≡◌, ℕ, ◌<◌, List, [], ◌∷◌, ◌++◌, Bor, append-nil, append_assoc, arith, length, drop, map, refl, sym, ap, subst, ◌∙◌}
+use Rattle.std.proofs.Common.{◌≡◌, ℕ, ◌<◌, List, [], ◌∷◌, ◌++◌, Bor, append-nil, append_assoc, arith, length, drop, map, sym, ap, subst, ◌∙◌}
 use Rattle.std.specs.List.{AllByRecursion}
 use Rattle.rld_log.specs.Frames.{Fits, HasPayloads, NoFrame, digest, first, frame, frames}
 use Rattle.rld_log.proofs.Callers.{Parts, frame_shape, parts_of}

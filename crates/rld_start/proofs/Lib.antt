@@ -1,4 +1,5 @@
 pub mod Alike
 pub mod Fronts
+pub mod Going
 pub mod Greatest
 pub mod Passed

@@ -6,9 +6,9 @@ use Rattle.rld_folder.specs.Newest.{IsBelow, IsNewest, IsNoNewer, Precedes}
 use Rattle.rld_folder.specs.declared.name.FileName.{FileName}
 use Rattle.rld_folder.specs.declared.name.FileName.TheVariants.{Lock, Era, Log}
 use Rattle.rld_folder.specs.declared.name.Generation.{Generation}
-use Rattle.rld_start.specs.Founds.{IsNewerPassed, IsNewestOf, IsPassed}
+use Rattle.rld_start.specs.Founds.{HasFirst, IsLogPassed, IsNewerPassed, IsNewestOf, IsPassed}
 use Rattle.rld_start.specs.declared.newest.Begun.{Begun}
-use Rattle.rld_start.specs.declared.newest.Unbegun.{Unbegun}
+use Rattle.rld_start.specs.declared.look.Unbegun.{Unbegun}
 
 -- two generations with the same numbers are the same
 pub same_numbers : (one other : Generation) → one.era ≡ other.era → one.number ≡ other.number → one ≡ other
@@ -86,10 +86,23 @@ newer_passed_at limit counts passed (Log generation) no_newer so_far = λ newer.
 -- the generation that counts, and what was passed over on the way to it
 pub counts_among : (limit : Option Generation) (files : List FileName) (counts : Generation) (passed : List Unbegun)
     (found : Begun) → IsNewest limit files (Some counts) → All (IsPassed limit passed) files
-    → found.generation ≡ counts → IsNewestOf files (Some found) passed
+    → (found.generation ≡ counts) × HasFirst found → IsNewestOf files (Some found) passed
 counts_among limit files counts passed found newest so_far is =
-    subst (λ (one : Generation). Contains files (Log one) × All (IsNewerPassed one passed) files) (sym is) (
+    subst (λ (one : Generation). Contains files (Log one) × All (IsNewerPassed one passed) files × HasFirst found) (sym is.0) (
       newest.there.0,
       λ k d within.
           newer_passed_at limit counts passed (get_or files k d) (newest.no_newer k d within) (so_far k d within),
+      is.1,
     )
+
+all_passed_at : (limit : Option Generation) (passed : List Unbegun) (file : FileName)
+    → IsNoNewer limit None file → IsPassed limit passed file → IsLogPassed passed file
+all_passed_at limit passed Lock no_newer so_far = tt
+all_passed_at limit passed (Era era) no_newer so_far = tt
+all_passed_at limit passed (Log generation) no_newer so_far = so_far no_newer
+
+-- where none is left, each was passed over
+pub all_passed : (limit : Option Generation) (files : List FileName) (passed : List Unbegun)
+    → IsNewest limit files None → All (IsPassed limit passed) files → All (IsLogPassed passed) files
+all_passed limit files passed newest so_far k d within =
+    all_passed_at limit passed (get_or files k d) (newest.no_newer k d within) (so_far k d within)

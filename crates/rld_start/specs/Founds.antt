@@ -5,18 +5,24 @@ use Rattle.rld_folder.specs.Newest.{IsBelow, Precedes}
 use Rattle.rld_folder.specs.declared.name.FileName.{FileName}
 use Rattle.rld_folder.specs.declared.name.FileName.TheVariants.{Lock, Era, Log}
 use Rattle.rld_folder.specs.declared.name.Generation.{Generation}
+use Rattle.rld_start.specs.Firsts.{IsFirst}
 use Rattle.rld_start.specs.Numbers.{IsFirstOrNone}
 use Rattle.rld_start.specs.declared.count.Admitted.{Admitted}
 use Rattle.rld_start.specs.declared.count.Found.{Found}
+use Rattle.rld_start.specs.declared.first.First.TheVariants.{Begun as begun_first}
 use Rattle.rld_start.specs.declared.newest.Begun.{Begun as WasBegun}
 use Rattle.rld_start.specs.declared.newest.Look.{Look}
 use Rattle.rld_start.specs.declared.newest.Look.TheVariants.{Begun as begun, Unbegun as unbegun}
 use Rattle.rld_start.specs.declared.newest.Newest.{Newest}
-use Rattle.rld_start.specs.declared.newest.Unbegun.{Unbegun as NotBegun}
+use Rattle.rld_start.specs.declared.look.Unbegun.{Unbegun as NotBegun}
+
+-- the frames of a generation that was begun have its header and a snapshot at their front
+abbrev pub HasFirst : WasBegun → Type 0
+HasFirst found = IsFirst found.frames.octets.items (begun_first found.header)
 
 -- the log that was looked at is that of a generation
 abbrev pub IsLookAt : Generation → Look → Type 0
-IsLookAt generation (begun found) = found.generation ≡ generation
+IsLookAt generation (begun found) = (found.generation ≡ generation) × HasFirst found
 IsLookAt generation (unbegun found) = found.generation ≡ generation
 
 -- a look found that a generation was not begun
@@ -29,18 +35,24 @@ IsPassed limit passed Lock = ⊤
 IsPassed limit passed (Era era) = ⊤
 IsPassed limit passed (Log generation) = (IsBelow limit generation → ⊥) → WasPassed passed generation
 
+-- each log was passed over
+abbrev pub IsLogPassed : (passed : List NotBegun) → FileName → Type 0
+IsLogPassed passed Lock = ⊤
+IsLogPassed passed (Era era) = ⊤
+IsLogPassed passed (Log generation) = WasPassed passed generation
+
 -- each log that is newer than the generation that counts was passed over
 abbrev pub IsNewerPassed : Generation → (passed : List NotBegun) → FileName → Type 0
 IsNewerPassed counts passed Lock = ⊤
 IsNewerPassed counts passed (Era era) = ⊤
 IsNewerPassed counts passed (Log generation) = Precedes counts generation → WasPassed passed generation
 
--- The generation that counts is among the files, and each newer log was passed over. If none
--- counts, each log is that of the first generation of its era.
+-- The generation that counts is among the files, with a header and a snapshot, and each newer log was
+-- passed over. If none counts, each log was passed over, and is that of the first generation of its era.
 abbrev pub IsNewestOf : (files : List FileName) → Option WasBegun → (passed : List NotBegun) → Type 0
-IsNewestOf files None passed = All IsFirstOrNone files
+IsNewestOf files None passed = All (IsLogPassed passed) files × All IsFirstOrNone files
 IsNewestOf files (Some found) passed =
-    Contains files (Log found.generation) × All (IsNewerPassed found.generation passed) files
+    Contains files (Log found.generation) × All (IsNewerPassed found.generation passed) files × HasFirst found
 
 abbrev pub IsNewestBegun : (files : List FileName) → Newest → Type 0
 IsNewestBegun files newest = IsNewestOf files newest.begun newest.passed.items

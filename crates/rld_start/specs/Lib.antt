@@ -4,8 +4,11 @@ pub mod Counted
 pub mod Firsts
 pub mod Founds
 pub mod Gaps
+pub mod Going
 pub mod Greeting
 pub mod Lengths
+pub mod Looks
+pub mod NewNumbers
 pub mod NextHeaders
 pub mod Numbers
 pub mod Rebased

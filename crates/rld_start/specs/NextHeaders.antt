@@ -3,6 +3,7 @@ use Rattle.std.specs.Prelude.{ℕ, List, ◌+◌, ◌&&◌, nat_eq, bytes_eq, if
 use Rattle.md5.specs.Md5.{md5}
 use Rattle.rld_folder.specs.declared.name.Generation.{Generation}
 use Rattle.rld_spelling.specs.declared.header.Header.{Header}
+use Rattle.rld_spelling.specs.declared.header.Format.TheVariants.{Two}
 use Rattle.rld_start.specs.declared.wrong.Cause.{Cause}
 use Rattle.rld_start.specs.declared.wrong.Cause.TheVariants.{OtherGeneration, OtherTable}
 
@@ -17,9 +18,11 @@ header_cause header generation table =
     (if bytes_eq header.digest (md5 table) then None else Some OtherTable)
     else Some OtherGeneration
 
--- the header of the generation with the number `generation`, after one with `moves` moves
+-- the header of the generation with the number `generation`, after one with `moves` moves; each
+-- generation that begins is of format 2
 abbrev pub header_after : Header → (generation moves : ℕ) → Header
 header_after header generation moves = record {
+  format = Two;
   era = header.era;
   generation = generation;
   digest = header.digest;

@@ -1,6 +1,6 @@
 -- The message on an era that was begun with the books of another, cut to the present.
 use Rattle.std.specs.Prelude.{ℕ, List, ◌++◌, codes}
-use Rattle.rld_start.specs.declared.rebasing.Rebased.{Rebased}
+use Rattle.rld_start.specs.declared.cutting.Rebased.{Rebased}
 use Rattle.rld_start.specs.Greeting.{numbered}
 
 abbrev pub rebased : Rebased → List ℕ

@@ -1,8 +1,7 @@
 //! A system clock that is behind the books: no deadline passes until it has caught up.
 
-ghost use Rattle.std.specs.Prelude.{◌≡◌, ℕ, length};
-ghost use Rattle.rld_books.specs.Clocks.{IsGreatestClock};
-ghost use Rattle.rld_start.specs.Behind.{behind};
+ghost use Rattle.std.specs.Prelude.{◌≡◌};
+ghost use Rattle.rld_start.specs.Behind.{IsBehind, behind};
 
 use rld_books::ServerBooks;
 use rsl_accounts::Config;
@@ -20,8 +19,7 @@ fn behind(now: u64, clock: u64) -> Option<u64>
 
 /// How many seconds the system's clock is behind the greatest clock of these books, if 60 or more.
 pub(crate) fn behind_books(config: &Config, books: &ServerBooks, now: u64) -> Option<u64>
-    ensures { (clock : ℕ)
-        × (IsGreatestClock books.now (length config.now.accounts) clock × (result ≡ behind now clock)) }
+    ensures { IsBehind config.now books.now now result }
 {
     behind(now, books.clock(config))
 }

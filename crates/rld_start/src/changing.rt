@@ -1,11 +1,14 @@
 //! An era after one with another account file, with the books admitted from it.
 
-ghost use Rattle.std.specs.Prelude.{◌≡◌, ◌+◌, ◌<◌, ◌^◌, ◌↔◌, ℕ, map, IfOk, IsTrue, Some};
+ghost use Rattle.std.specs.Prelude.{◌≡◌, ◌+◌, ◌↔◌, ℕ, map, IfOk, IfSome, IsTrue, Some};
 ghost use Rattle.std.specs.Option.{option_map};
+ghost use Rattle.md5.specs.Md5.{md5};
 ghost use Rattle.rld_admit.specs.Admitted.{AreAdmitted};
-ghost use Rattle.rld_books.specs.Saved.{IsServerOf, rows_in};
+ghost use Rattle.rld_books.specs.Saved.{IsServerOf};
+ghost use Rattle.rld_spelling.specs.Eras.{era_octets};
 ghost use Rattle.rld_spelling.specs.Tables.{account_row, client_row, table_of};
-ghost use Rattle.rld_start.specs.Counted.{sessions_in as counted};
+ghost use Rattle.rld_start.specs.Counted.{AreSessionsOf};
+ghost use Rattle.rld_start.specs.Going.{Admits};
 ghost use Rattle.rld_start.specs.NextHeaders.{generation_named};
 ghost use Rattle.rld_start.specs.Numbers.{era_of, greatest_by};
 ghost use Rattle.rld_start.specs.declared.count.Admitted.{Admitted as WasAdmitted};
@@ -45,14 +48,23 @@ pub(crate) fn change<'a, R: Files<File = File>>(
     now: u64,
     pacing: Pacing<'a>,
 ) -> Result<Started<'a>, StartFault>
+    requires { table.now.octets.items ≡ era_octets (table_of table.now.boot config.now) → ⊥ }
+    ensures written { IfOk result (λ started. started.store.header ≡ started.header) }
+    ensures key { IfOk result (λ started. started.key.generation ≡ generation_named started.header) }
     ensures server { IfOk result (λ started. IsServerOf config.now started.store.books) }
     ensures boot { IfOk result (λ started. started.boot ≡ table.now.boot) }
     ensures era { IfOk result (λ started. started.header.era ≡ greatest_by era_of names.now + 1) }
+    ensures first { IfOk result (λ started.
+        (started.header.generation ≡ 1) × (started.header.lines ≡ 0)) }
     ensures found { IfOk result (λ started. started.found.era ≡ started.header.era) }
     ensures from { IfOk result (λ started.
         option_map (λ (admitted : WasAdmitted). admitted.from) started.found.admitted ≡ Some begun.generation) }
+    ensures admits { IfOk result (λ started.
+        Admits table.now.octets.items config.now begun started.store.books) }
+    ensures table { IfOk result (λ started. started.header.digest ≡ md5 (era_octets (table_of started.boot config.now))) }
+    ensures sessions { IfOk result (λ started. AreSessionsOf started.store.books started.found.sessions) }
 {
-    let old = config_in(alloc, begun.generation.era, table.octets.as_slice())?;
+    let old = config_in(alloc, begun.generation().era, table.octets.as_slice())?;
     let former = reopen(alloc, &old, table, begun, pacing)?;
     change_from(
         files, alloc, &old, config, folder, names, former, now, pacing,
@@ -72,20 +84,29 @@ fn change_from<'a, R: Files<File = File>>(
     now: u64,
     pacing: Pacing<'a>,
 ) -> Result<Started<'a>, StartFault>
+    ensures written { IfOk result (λ started. started.store.header ≡ started.header) }
+    ensures key { IfOk result (λ started. started.key.generation ≡ generation_named started.header) }
     ensures server { IfOk result (λ started. IsServerOf config.now started.store.books) }
     ensures admitted { IfOk result (λ started. (boot next : ℕ) →
         AreAdmitted (table_of boot old.now) former.entry.opened.store.books
         (table_of next config.now) started.store.books) }
     ensures boot { IfOk result (λ started. started.boot ≡ former.entry.boot) }
     ensures era { IfOk result (λ started. started.header.era ≡ greatest_by era_of names.now + 1) }
+    ensures first { IfOk result (λ started.
+        (started.header.generation ≡ 1) × (started.header.lines ≡ 0)) }
+    ensures held { IfOk result (λ started. IfSome started.found.admitted (λ admitted.
+        AreSessionsOf former.entry.opened.store.books admitted.sessions)) }
     ensures found { IfOk result (λ started. started.found.era ≡ started.header.era) }
     ensures from { IfOk result (λ started. option_map (λ (admitted : WasAdmitted). admitted.from)
         started.found.admitted ≡ Some former.entry.generation) }
+    ensures table { IfOk result (λ started. started.header.digest ≡ md5 (era_octets (table_of started.boot config.now))) }
+    ensures sessions { IfOk result (λ started. AreSessionsOf started.store.books started.found.sessions) }
 {
     let Former {
         generation,
         boot,
         opened,
+        ..
     } = former;
     let Opened { store, torn, .. } = opened;
     let admitted = Admitted {
@@ -99,13 +120,14 @@ fn change_from<'a, R: Files<File = File>>(
     let begun = begin_era(files, alloc, config, &folder, names, octets, books, pacing)?;
     let synced = sync_begun(files, alloc, &folder, &begun.header)?;
     let found = found_changed(alloc, config, &begun, &synced, admitted, torn, now)?;
-    let NewEra { store, header } = begun;
+    let NewEra { store, header, key } = begun;
     Ok(Started {
         folder,
         store,
         boot,
         found,
         header,
+        key,
     })
 }
 
@@ -123,9 +145,7 @@ fn found_changed(
     requires { synced.now.generation ≡ generation_named begun.now.header }
     ensures era { IfOk result (λ found. found.era ≡ begun.now.header.era) }
     ensures admitted { IfOk result (λ found. found.admitted ≡ Some admitted) }
-    ensures sessions { IfOk result (λ found.
-        counted (rows_in begun.now.store.books) < 2 ^ 64 →
-        found.sessions ≡ counted (rows_in begun.now.store.books)) }
+    ensures sessions { IfOk result (λ found. AreSessionsOf begun.now.store.books found.sessions) }
 {
     let _log = synced;
     Ok(Found {

@@ -1,7 +1,9 @@
 //! The files of a folder, with faults that name the file.
 
+ghost use Rattle.std.specs.Prelude.{◌≡◌, IfOk};
+
 use crate::fault::{StartFault, file_fault};
-use rld_folder::{FileName, Folder, Generation};
+use rld_folder::{FileName, Folder, Generation, NewLog};
 use rld_log::FileLog;
 use std::alloc::Global;
 use std::fs::{File, Files};
@@ -19,15 +21,17 @@ pub(crate) fn open_log<R: Files<File = File>>(
     }
 }
 
-/// Creates the log of a new generation.
+/// Makes the log of a new generation.
 pub(crate) fn create_log<R: Files<File = File>>(
     files: &R,
     alloc: Global,
     folder: &Folder,
     generation: Generation,
-) -> Result<FileLog, StartFault> {
+) -> Result<NewLog, StartFault>
+    ensures { IfOk result (λ made. made.key.generation ≡ generation) }
+{
     match folder.create_log(files, alloc, generation) {
-        Ok(log) => Ok(log),
+        Ok(made) => Ok(made),
         Err(fault) => Err(file_fault(FileName::Log(generation), fault)),
     }
 }

@@ -4,12 +4,14 @@ ghost use Rattle.std.specs.Prelude.{◌≡◌};
 
 use crate::fault::StartFault;
 use crate::new_era::{NextEra, make_era};
-use crate::number::next_generation;
+use crate::number::{era_after, generation_after};
+use crate::written::Written;
 use rld_admit::era_file;
 use rld_books::BlankBooks;
 use rld_config::Archive;
 use rld_folder::{
-    ArchivedLog, Folder, FolderFault, Generation, Removed, Synced, logless_eras, older_logs,
+    ArchivedLog, Folder, FolderFault, Generation, LogKey, NewLog, Removed, Synced, logless_eras,
+    older_logs,
 };
 use rld_log::{FileLog, Log, PacedLog, Pacing};
 use rsl_accounts::Config;
@@ -22,8 +24,9 @@ const MEGABYTE: u64 = 1_000_000;
 /// A log in which a generation can begin.
 #[derive(Drop)]
 pub struct NextLog<L> {
-    /// The generation, whose number no log of the folder had.
-    pub generation: Generation,
+    /// The right to remove the log, which has the generation of its name. No log of the folder had
+    /// that name before.
+    pub key: LogKey,
     /// Its log, which is empty.
     pub log: L,
 }
@@ -31,13 +34,13 @@ pub struct NextLog<L> {
 impl<L: Log> NextLog<L> {
     /// The log, synced as the pacing says.
     pub fn paced(self, pacing: Pacing<'_>) -> NextLog<PacedLog<'_, L>>
-        ensures generation { result.generation ≡ self.generation }
+        ensures key { result.key ≡ self.key }
         ensures log { result.log.log ≡ self.log }
         ensures pace { result.log.pace ≡ pacing.entry.pace }
     {
-        let NextLog { generation, log } = self;
+        let NextLog { key, log } = self;
         NextLog {
-            generation,
+            key,
             log: PacedLog::new(log, pacing),
         }
     }
@@ -46,64 +49,74 @@ impl<L: Log> NextLog<L> {
 /// The logs of a running server: that of its next generation, and those that no start needs any
 /// more.
 pub trait Generations {
-    ghost use Rattle.std.specs.Prelude.{◌≡◌, IfOk, map};
+    ghost use Rattle.std.specs.Prelude.{◌≡◌, ◌<◌, IfOk, map};
     ghost use Rattle.rld_books.specs.Blank.{blank_book};
     ghost use Rattle.md5.specs.Md5.{md5};
     ghost use Rattle.rld_spelling.specs.Eras.{era_octets};
+    ghost use Rattle.rld_spelling.specs.declared.header.Format.TheVariants.{Two as two};
     ghost use Rattle.rld_spelling.specs.Tables.{table_of};
+    ghost use Rattle.rld_start.specs.NextHeaders.{generation_named};
 
-    /// Makes the log of the next generation of this era, and syncs its name.
+    /// Makes the log of the generation that follows the present one in its era, and syncs its name.
     ///
-    /// `NoNumber` comes if no number is left. The other faults are the folder's: `Unread` if its
-    /// files cannot be listed, `Unopened` if the log cannot be made, and `Unsynced` if its name
-    /// cannot be synced; then it is removed again if possible: an empty log is no generation. After
-    /// any fault a start goes on from the present generation.
-    fn next_log(&self, alloc: Global, era: u64) -> Result<NextLog<FileLog>, StartFault>
-        ensures { IfOk result (λ next. next.generation.era ≡ era) };
+    /// `NoNumber` comes if no number is left, and if the files of the folder have none that is as
+    /// great as the present one. The other faults are the folder's: `Unread` if its files cannot be
+    /// listed, `Unopened` if the log cannot be made, and `Unsynced` if its name cannot be synced;
+    /// then it is removed again if possible: an empty log is no generation. After any fault a start
+    /// goes on from the present generation.
+    fn next_log(&self, alloc: Global, present: Generation) -> Result<NextLog<FileLog>, StartFault>
+        ensures era { IfOk result (λ next. next.key.generation.era ≡ present.era) }
+        ensures newer { IfOk result (λ next. present.number < next.key.generation.number) };
 
-    /// Makes the files of the next era, with the table of this configuration and boot number: the
-    /// table, and the empty log of its first generation. Both names and the table are synced. It
-    /// also has a blank book of each account, so that nothing waits for these when the era begins.
+    /// Makes the files of the era that follows the present one, of number `present_era`, with the
+    /// table of this configuration and boot number: the table, and the empty log of its first
+    /// generation. Both names and the table are synced. It also has a blank book of each account, so
+    /// that nothing waits for these when the era begins.
     ///
-    /// `NoNumber` comes if no number is left. The other faults are the folder's, as of `next_log`,
+    /// `NoNumber` comes as of `next_log`. The other faults are the folder's, as of `next_log`,
     /// and `NoMemory` if memory is refused. After any fault, and until the log has a snapshot, a
     /// start goes on from the present generation.
     fn next_era(
         &self,
         alloc: Global,
+        present_era: u64,
         config: &Config,
         boot: u64,
     ) -> Result<NextEra<FileLog>, StartFault>
+        ensures format { IfOk result (λ next. next.header.format ≡ two) }
+        ensures newer { IfOk result (λ next. present_era < next.header.era) }
         ensures first { IfOk result (λ next.
             (next.header.generation ≡ 1) × (next.header.lines ≡ 0)) }
+        ensures key { IfOk result (λ next. next.key.generation ≡ generation_named next.header) }
         ensures table { IfOk result (λ next.
             next.header.digest ≡ md5 (era_octets (table_of boot config.now))) }
         ensures blanks { IfOk result (λ next. next.blanks ≡ map blank_book config.now.accounts) };
 
-    /// Syncs the log of a generation to the disk, whatever the pacing. `Unopened` comes if it is
+    /// Syncs the log that a store writes to the disk, whatever the pacing. `Unopened` comes if it is
     /// missing or cannot be opened, and `Unsynced` if the system cannot say that the disk has it.
-    fn sync(&self, alloc: Global, generation: Generation) -> Result<Synced, FolderFault>
-        ensures { IfOk result (λ synced. synced.generation ≡ generation) };
+    fn sync(&self, alloc: Global, written: Written) -> Result<Synced, FolderFault>
+        ensures { IfOk result (λ synced. synced.generation ≡ written.generation) };
 
-    /// Removes the log of a generation that was not begun, or whose begin failed: it may have a
-    /// whole snapshot, and then a start would go on from it. Until it is removed, nothing more may
-    /// be recorded in the generation before it; so what goes on there requires a `Removed`.
+    /// Removes a log that was made here and whose generation was not begun, or whose begin failed:
+    /// it may have a whole snapshot, and then a start would go on from it. Until it is removed,
+    /// nothing more may be recorded in the generation before it; so what goes on there requires a
+    /// `Removed`.
     ///
     /// `Unremoved` comes if it cannot be removed. After `Unsynced` a loss of power may bring it
     /// back.
-    fn remove(&self, alloc: Global, generation: Generation) -> Result<Removed, FolderFault>
-        ensures { IfOk result (λ removed. removed.generation ≡ generation) };
+    fn remove(&self, alloc: Global, key: LogKey) -> Result<Removed, FolderFault>
+        ensures { IfOk result (λ removed. removed.generation ≡ key.generation) };
 
-    /// Puts away the logs before the newest generation, as the archive is kept, once the log of that one
+    /// Puts away the logs before the generation that a store writes, as the archive is kept, once its log
     /// is on the disk: they go to the folder `archive`, or are removed where nothing is kept. Logs that
     /// were kept for as many days as they shall be at this second since 1970 are removed from it, and then
     /// the oldest ones, until it has no more octets than it may. Then
-    /// the table of each era before that of the newest generation is removed of which no log is left,
+    /// the table of each era before that of this generation is removed of which no log is left,
     /// neither in the folder nor in its archive; where the archive keeps all logs, all tables stay.
     ///
     /// The first fault is the folder's. What cannot be put away stays in place, and the next call
     /// tries it again; nothing that a start needs is moved.
-    fn put_away(&self, alloc: Global, newest: Generation, now: u64) -> Result<(), FolderFault>;
+    fn put_away(&self, alloc: Global, newest: Written, now: u64) -> Result<(), FolderFault>;
 
     /// The logs of the archive, in no order, each with its octets; none where there is no archive. `Unread`
     /// comes where the archive, or what the system knows of a log, cannot be read.
@@ -141,7 +154,8 @@ impl<'a, R: Files<File = File>> FolderGenerations<'a, R> {
     }
 
     /// Moves or removes the logs before the newest generation.
-    fn put_away_older(&self, alloc: Global, newest: Generation) -> Result<(), FolderFault> {
+    fn put_away_older(&self, alloc: Global, newest: Written) -> Result<(), FolderFault> {
+        let newest = newest.generation();
         let names = self.folder.files(&(self.files, alloc))?;
         let older = older_logs(alloc, names.as_slice(), newest)?;
         if older.is_empty() {
@@ -157,12 +171,19 @@ impl<'a, R: Files<File = File>> FolderGenerations<'a, R> {
         }
     }
 
-    /// Removes the tables of eras before that of the newest generation that have no log.
-    fn remove_logless(&self, alloc: Global, newest: Generation) -> Result<(), FolderFault> {
+    /// Removes the tables of eras before that of the newest generation that have no log, once the log
+    /// of that generation is on the disk.
+    fn remove_logless(&self, alloc: Global, newest: Written) -> Result<(), FolderFault> {
         let names = self.folder.files(&(self.files, alloc))?;
         let archived = self.folder.archived(&(self.files, alloc))?;
-        let eras = logless_eras(alloc, names.as_slice(), archived.as_slice(), newest)?;
-        self.folder.remove_eras(self.files, alloc, eras.as_slice())
+        let names = names.as_slice();
+        let eras = logless_eras(alloc, names, archived.as_slice(), newest.generation())?;
+        if eras.is_empty() {
+            return Ok(());
+        }
+        let synced = self.sync(alloc, newest)?;
+        self.folder
+            .remove_eras(self.files, alloc, eras.as_slice(), &synced)
     }
 
     /// Removes the oldest logs of the archive, where it has more octets than it may.
@@ -178,12 +199,7 @@ impl<'a, R: Files<File = File>> FolderGenerations<'a, R> {
 
     /// Removes what the archive keeps no more: logs that were kept long enough at this second, the oldest
     /// ones where it has too many octets, and the tables of eras that then have no log.
-    fn remove_unkept(
-        &self,
-        alloc: Global,
-        newest: Generation,
-        now: u64,
-    ) -> Result<(), FolderFault> {
+    fn remove_unkept(&self, alloc: Global, newest: Written, now: u64) -> Result<(), FolderFault> {
         let expired = match self.archive {
             Archive::Keep if self.megabytes.is_none() => return Ok(()),
             Archive::Days(days) => self.folder.remove_expired(&(self.files, alloc), days, now),
@@ -196,50 +212,44 @@ impl<'a, R: Files<File = File>> FolderGenerations<'a, R> {
 }
 
 impl<R: Files<File = File>> Generations for FolderGenerations<'_, R> {
-    fn next_log(&self, alloc: Global, era: u64) -> Result<NextLog<FileLog>, StartFault> {
+    fn next_log(&self, alloc: Global, present: Generation) -> Result<NextLog<FileLog>, StartFault> {
         let names = self.folder.files(&(self.files, alloc))?;
-        let Some(number) = next_generation(names.as_slice(), era) else {
-            return Err(StartFault::NoNumber);
-        };
-        let generation = Generation { era, number };
-        match self.folder.create_log(self.files, alloc, generation) {
-            Ok(log) => Ok(NextLog { generation, log }),
-            Err(FolderFault::Unsynced) => {
-                let _ = self.folder.remove_log(self.files, alloc, generation);
-                Err(StartFault::Folder(FolderFault::Unsynced))
-            }
-            Err(fault) => Err(StartFault::from(fault)),
-        }
+        let generation = generation_after(names.as_slice(), present)?;
+        let NewLog { key, log } = self.folder.create_log(self.files, alloc, generation)?;
+        Ok(NextLog { key, log })
     }
 
     fn next_era(
         &self,
         alloc: Global,
+        present_era: u64,
         config: &Config,
         boot: u64,
     ) -> Result<NextEra<FileLog>, StartFault> {
         let table = era_file(alloc, config, boot)?;
         let names = self.folder.files(&(self.files, alloc))?;
+        let era = era_after(names.as_slice(), present_era)?;
         let blanks = BlankBooks::new(alloc, config)?;
         make_era(
             self.files,
             alloc,
             &self.folder,
-            names.as_slice(),
+            era,
             table.as_slice(),
             blanks,
         )
     }
 
-    fn sync(&self, alloc: Global, generation: Generation) -> Result<Synced, FolderFault> {
-        self.folder.sync_log(self.files, alloc, generation)
+    fn sync(&self, alloc: Global, written: Written) -> Result<Synced, FolderFault> {
+        self.folder
+            .sync_log(self.files, alloc, written.generation())
     }
 
-    fn remove(&self, alloc: Global, generation: Generation) -> Result<Removed, FolderFault> {
-        self.folder.remove_log(self.files, alloc, generation)
+    fn remove(&self, alloc: Global, key: LogKey) -> Result<Removed, FolderFault> {
+        self.folder.remove_log(self.files, alloc, key)
     }
 
-    fn put_away(&self, alloc: Global, newest: Generation, now: u64) -> Result<(), FolderFault> {
+    fn put_away(&self, alloc: Global, newest: Written, now: u64) -> Result<(), FolderFault> {
         let moved = self.put_away_older(alloc, newest);
         let removed = self.remove_unkept(alloc, newest, now);
         match moved {

@@ -2,6 +2,8 @@
 
 ghost use Rattle.std.specs.Prelude.{◌≡◌, ◌+◌, IfOk};
 ghost use Rattle.md5.specs.Md5.{md5};
+ghost use Rattle.rld_spelling.specs.declared.header.Format.TheVariants.{Two as two};
+ghost use Rattle.rld_start.specs.NextHeaders.{generation_named};
 ghost use Rattle.rld_start.specs.Numbers.{era_of, greatest_by};
 
 use crate::fault::StartFault;
@@ -11,9 +13,9 @@ use crate::number::next_era;
 use crate::refused::log_refused;
 use md5::{Digest, Md5};
 use rld_books::{BlankBooks, ServerBooks};
-use rld_folder::{FileName, Folder, Generation};
+use rld_folder::{FileName, Folder, Generation, LogKey, NewLog};
 use rld_log::{FileLog, Log, PacedLog, Pacing};
-use rld_spelling::Header;
+use rld_spelling::{FORMAT_VERSION, Header};
 use rld_store::Store;
 use rsl_accounts::Config;
 use std::alloc::Global;
@@ -27,6 +29,8 @@ pub(crate) const FIRST: u64 = 1;
 pub struct NextEra<L> {
     /// The header of that generation.
     pub header: Header,
+    /// The right to remove its log, which has the generation of the log's name.
+    pub key: LogKey,
     /// Its log, which is empty.
     pub log: L,
     /// Blank books of its accounts, if they were made.
@@ -37,17 +41,20 @@ impl<L: Log> NextEra<L> {
     /// The era, with a log that is synced as the pacing says.
     pub fn paced(self, pacing: Pacing<'_>) -> NextEra<PacedLog<'_, L>>
         ensures header { result.header ≡ self.header }
+        ensures key { result.key ≡ self.key }
         ensures log { result.log.log ≡ self.log }
         ensures pace { result.log.pace ≡ pacing.entry.pace }
         ensures blanks { result.blanks ≡ self.blanks }
     {
         let NextEra {
             header,
+            key,
             log,
             blanks,
         } = self;
         NextEra {
             header,
+            key,
             log: PacedLog::new(log, pacing),
             blanks,
         }
@@ -61,32 +68,34 @@ pub(crate) struct NewEra<'a> {
     pub(crate) store: Store<PacedLog<'a, FileLog>>,
     /// The header of that generation.
     pub(crate) header: Header,
+    /// The right to remove that log, which has the generation of its name.
+    pub(crate) key: LogKey,
 }
 
 /// Makes the files of an era with the table of these octets, under a number that no file of the
-/// folder has: the table, and the empty log of its first generation. Both names and the table are
-/// synced. A crash at any call leaves no generation that was begun.
+/// folder may have: the table, and the empty log of its first generation. Both names and the table
+/// are synced. A crash at any call leaves no generation that was begun.
 pub(crate) fn make_era<R: Files<File = File>>(
     files: &R,
     alloc: Global,
     folder: &Folder,
-    names: &[FileName],
+    era: u64,
     table: &[u8],
     blanks: BlankBooks,
 ) -> Result<NextEra<FileLog>, StartFault>
-    ensures era { IfOk result (λ next. next.header.era ≡ greatest_by era_of names.now + 1) }
+    ensures format { IfOk result (λ next. next.header.format ≡ two) }
+    ensures era { IfOk result (λ next. next.header.era ≡ era) }
     ensures first { IfOk result (λ next.
         (next.header.generation ≡ 1) × (next.header.lines ≡ 0)) }
+    ensures key { IfOk result (λ next. next.key.generation ≡ generation_named next.header) }
     ensures table { IfOk result (λ next. next.header.digest ≡ md5 table.now) }
     ensures blanks { IfOk result (λ next. next.blanks ≡ blanks) }
 {
-    let Some(era) = next_era(names) else {
-        return Err(StartFault::NoNumber);
-    };
     write_era(files, alloc, folder, era, table)?;
     let generation = Generation { era, number: FIRST };
-    let log = create_log(files, alloc, folder, generation)?;
+    let NewLog { key, log } = create_log(files, alloc, folder, generation)?;
     let header = Header {
+        format: FORMAT_VERSION,
         era,
         generation: FIRST,
         digest: Md5::digest(table),
@@ -94,6 +103,7 @@ pub(crate) fn make_era<R: Files<File = File>>(
     };
     Ok(NextEra {
         header,
+        key,
         log,
         blanks,
     })
@@ -112,16 +122,27 @@ pub(crate) fn begin_era<'a, R: Files<File = File>>(
     books: ServerBooks,
     pacing: Pacing<'a>,
 ) -> Result<NewEra<'a>, StartFault>
+    ensures format { IfOk result (λ begun. begun.header.format ≡ two) }
     ensures era { IfOk result (λ begun. begun.header.era ≡ greatest_by era_of names.now + 1) }
     ensures first { IfOk result (λ begun.
         (begun.header.generation ≡ 1) × (begun.header.lines ≡ 0)) }
     ensures table { IfOk result (λ begun. begun.header.digest ≡ md5 table.now) }
+    ensures key { IfOk result (λ begun. begun.key.generation ≡ generation_named begun.header) }
     ensures books { IfOk result (λ begun. begun.store.books ≡ books) }
+    ensures written { IfOk result (λ begun. begun.store.header ≡ begun.header) }
 {
+    let Some(era) = next_era(names) else {
+        return Err(StartFault::NoNumber);
+    };
     let blanks = BlankBooks::none(alloc);
-    let NextEra { header, log, .. } = make_era(files, alloc, folder, names, table, blanks)?;
+    let NextEra {
+        header,
+        key,
+        log,
+        ..
+    } = make_era(files, alloc, folder, era, table, blanks)?;
     match Store::begin_with(alloc, config, header, books, PacedLog::new(log, pacing)) {
-        Ok(store) => Ok(NewEra { store, header }),
+        Ok(store) => Ok(NewEra { store, header, key }),
         Err(refused) => Err(log_refused(generation_named(&header), refused.fault)),
     }
 }

@@ -1,37 +1,53 @@
 //! The generation that counts: the newest one that was begun.
 
-ghost use Rattle.std.specs.Prelude.{◌≡◌, ◌↔◌, All, IfOk, IsTrue, OnOk};
-ghost use Rattle.rld_start.specs.Firsts.{IsFirst};
+ghost use Rattle.std.specs.Prelude.{◌≡◌, ◌↔◌, All, IfOk, IsTrue, None, OnOk};
+ghost use Rattle.rld_folder.specs.Newest.{IsNewest};
 ghost use Rattle.rld_start.specs.Founds.{IsLookAt, IsNewestBegun, generation_in};
 ghost use Rattle.rld_start.specs.Numbers.{IsFirstOrNone};
 
 use crate::fault::StartFault;
 use crate::files::open_log;
-use crate::first::{First, check_torn};
+use crate::look::{Seen, Unbegun, look_in};
 use crate::new_era::FIRST;
 use crate::refused::log_refused;
 use crate::wrong::{Cause, Wrong};
 use rld_folder::{FileName, Folder, Generation, newest_generation};
-use rld_log::{FileLog, Frames, Log};
+use rld_log::{FileLog, Frames};
 use rld_spelling::Header;
-use rld_store::{StoreFault, read_frames};
 use std::alloc::Global;
 use std::fs::{File, Files};
 
 /// A generation that was begun, its log, and the frames read from it. Only `look_at` makes one.
 #[derive(Drop)]
 pub(crate) struct Begun {
-    pub(crate) generation: Generation,
-    pub(crate) header: Header,
-    pub(crate) log: FileLog,
-    pub(crate) frames: Frames,
+    generation: Generation,
+    header: Header,
+    log: FileLog,
+    frames: Frames,
 }
 
-/// Proof that the log of a generation was read, and has no whole snapshot: it was not begun. Only
-/// `look_at` makes one.
-#[derive(Drop)]
-pub(crate) struct Unbegun {
-    generation: Generation,
+impl Begun {
+    /// The generation.
+    pub(crate) fn generation(&self) -> Generation
+        ensures { result ≡ self.now.generation }
+    {
+        self.generation
+    }
+
+    /// Its header.
+    pub(crate) fn header(&self) -> Header
+        ensures { result ≡ self.now.header }
+    {
+        self.header
+    }
+
+    /// Its log, and the frames read from it.
+    pub(crate) fn into_log(self) -> (FileLog, Frames)
+        ensures log { result.0 ≡ self.log }
+        ensures frames { result.1 ≡ self.frames }
+    {
+        (self.log, self.frames)
+    }
 }
 
 /// The result of looking at the log of a generation.
@@ -41,22 +57,31 @@ enum Look {
     Unbegun(Unbegun),
 }
 
-/// The result of looking for the generation that counts.
+/// The result of looking for the generation that counts. Only `newest_begun` makes one.
 #[derive(Drop)]
 pub(crate) struct Newest {
     /// The newest generation that was begun, if there is one.
-    pub(crate) begun: Option<Begun>,
+    begun: Option<Begun>,
     /// The newer ones, which were not begun.
-    pub(crate) passed: Vec<Unbegun>,
+    passed: Vec<Unbegun>,
 }
 
-/// The generation that counts, if there is one.
-pub(crate) fn generation_in(begun: &Option<Begun>) -> Option<Generation>
-    ensures { result ≡ generation_in begun.now }
-{
-    match begun {
-        Some(begun) => Some(begun.generation),
-        None => None,
+impl Newest {
+    /// The generation that counts, if there is one.
+    pub(crate) fn generation(&self) -> Option<Generation>
+        ensures { result ≡ generation_in self.now.begun }
+    {
+        match &self.begun {
+            Some(begun) => Some(begun.generation),
+            None => None,
+        }
+    }
+
+    /// The generation that counts, with its log, if there is one.
+    pub(crate) fn into_begun(self) -> Option<Begun>
+        ensures { result ≡ self.begun }
+    {
+        self.begun
     }
 }
 
@@ -90,7 +115,7 @@ pub(crate) fn newest_begun<R: Files<File = File>>(
             },
         }
     }
-    check_first(names)?;
+    check_first(names, later)?;
     Ok(Newest {
         begun: None,
         passed,
@@ -107,30 +132,16 @@ fn look_at<R: Files<File = File>>(
     ensures { IfOk result (IsLookAt generation) }
 {
     let mut log = open_log(files, alloc, folder, generation)?;
-    let (frames, first) = match first_in(alloc, &mut log) {
-        Ok(found) => found,
-        Err(fault) => return Err(log_refused(generation, fault)),
-    };
-    match first {
-        First::Begun(header) => Ok(Look::Begun(Begun {
+    match look_in(alloc, generation, &mut log) {
+        Ok(Seen::Begun(header, frames)) => Ok(Look::Begun(Begun {
             generation,
             header,
             log,
             frames,
         })),
-        First::Unbegun => Ok(Look::Unbegun(Unbegun { generation })),
+        Ok(Seen::Unbegun(unbegun)) => Ok(Look::Unbegun(unbegun)),
+        Err(fault) => Err(log_refused(generation, fault)),
     }
-}
-
-/// The frames of a log, and its front.
-fn first_in<L: Log>(alloc: Global, log: &mut L) -> Result<(Frames, First), StoreFault>
-    ensures frames { IsTrue (L.tells log.new) → IfOk result (λ found. found.0.octets.items ≡ L.seen log.new) }
-    ensures first { IsTrue (L.tells log.new) → IfOk result (λ found. IsFirst (L.seen log.old) found.1) }
-{
-    let frames = read_frames(alloc, log)?;
-    check_torn(&frames)?;
-    let first = First::of(&frames.payloads(alloc)?)?;
-    Ok((frames, first))
 }
 
 /// Whether a file is no log, or that of the first generation of an era.
@@ -155,19 +166,27 @@ fn are_first(names: &[FileName]) -> bool
     true
 }
 
-/// Checks that it is possible that no generation was begun: each log is that of the first
-/// generation of its era. Else `Alone` of the newest log comes.
-fn check_first(names: &[FileName]) -> Result<(), StartFault>
-    ensures { OnOk result (All IsFirstOrNone names.now) }
+/// Checks that it is possible that no generation was begun: no log is left below the one that was
+/// looked at last, and each is that of the first generation of its era. Else `Alone` of the newest
+/// of these comes.
+fn check_first(names: &[FileName], later: Option<Generation>) -> Result<(), StartFault>
+    ensures none_left { OnOk result (IsNewest later names.now None) }
+    ensures first { OnOk result (All IsFirstOrNone names.now) }
 {
-    match newest_generation(names, None) {
-        Some(newest) if !are_first(names) => {
-            let wrong = Wrong {
-                offset: 0,
-                cause: Cause::Alone,
-            };
-            Err(StartFault::bad(FileName::Log(newest), wrong))
-        }
-        _ => Ok(()),
+    match newest_generation(names, later) {
+        Some(left) => Err(alone(left)),
+        None => match newest_generation(names, None) {
+            Some(newest) if !are_first(names) => Err(alone(newest)),
+            _ => Ok(()),
+        },
     }
+}
+
+/// The fault of a log that is not the first of its era, while none before it was begun.
+fn alone(generation: Generation) -> StartFault {
+    let wrong = Wrong {
+        offset: 0,
+        cause: Cause::Alone,
+    };
+    StartFault::bad(FileName::Log(generation), wrong)
 }

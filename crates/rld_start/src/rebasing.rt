@@ -1,34 +1,22 @@
 //! An era after one whose clock was ahead, with its books cut to the present.
 
-ghost use Rattle.std.specs.Prelude.{◌≡◌, ◌+◌, ◌<◌, ◌^◌, IfOk};
-ghost use Rattle.md5.specs.Md5.{md5};
-ghost use Rattle.rld_books.specs.Cut.{cut_server, late_in_server};
-ghost use Rattle.rld_books.specs.Saved.{IsServerOf};
+ghost use Rattle.std.specs.Prelude.{◌≡◌, ◌+◌, All, IfOk, IfSome, OnOk, Some};
+ghost use Rattle.rld_start.specs.Founds.{IsNewestBegun, generation_in};
+ghost use Rattle.rld_start.specs.Gaps.{IsEarlier};
+ghost use Rattle.rld_start.specs.Going.{HasCut};
+ghost use Rattle.rld_start.specs.NextHeaders.{generation_named};
 ghost use Rattle.rld_start.specs.Numbers.{era_of, greatest_by};
 
+use crate::cutting::{CutEra, Rebased, cut_from};
 use crate::fault::StartFault;
 use crate::gap::check_archive;
-use crate::new_era::{NewEra, begin_era};
-use crate::newest::{Begun, Newest, generation_in, newest_begun};
-use crate::reopening::{EraTable, Former, check_accounts, read_table, reopen};
-use crate::wrong::{Cause, Wrong};
-use rld_books::{CutBooks, ServerBooks, ServerFault};
-use rld_folder::{FileName, Folder, Generation};
+use crate::newest::{Begun, Newest, newest_begun};
+use crate::reopening::{check_accounts, read_table, reopen};
+use rld_folder::{FileName, Folder};
 use rld_log::{Pace, Pacing, Ticks};
 use rsl_accounts::Config;
 use std::alloc::Global;
 use std::fs::{File, Files};
-
-/// The result of a rebase.
-#[derive(Clone, Copy)]
-pub struct Rebased {
-    /// The generation whose books were cut.
-    pub from: Generation,
-    /// The number of the era that begins with them.
-    pub era: u64,
-    /// The number of moments that were later than the present and were cut, at most 2^64 - 1.
-    pub moments: u64,
-}
 
 /// Begins a new era in the folder of a server that is not running: with the table and the boot
 /// number of the newest generation that was begun, and with its books cut to `now`, in seconds
@@ -48,16 +36,61 @@ pub fn rebase<R: Files<File = File> + Alloc<A = Global> + Clone + Drop>(
 ) -> Result<Rebased, StartFault> {
     let folder = Folder::open(rt, alloc, path)?;
     let files = folder.files(rt)?;
-    let Newest { begun, .. } = newest_begun(rt, alloc, &folder, files.as_slice())?;
-    check_archive(folder.archived(rt)?.as_slice(), generation_in(&begun))?;
-    match begun {
-        Some(begun) => rebase_begun(rt, alloc, config, &folder, files.as_slice(), begun, now),
+    let files = files.as_slice();
+    let newest = newest_begun(rt, alloc, &folder, files)?;
+    let archived = folder.archived(rt)?;
+    let ticks = Ticks::new();
+    let pacing = Pacing {
+        pace: Pace::Always,
+        ticks: &ticks,
+    };
+    let cut = rebase_newest(
+        rt,
+        alloc,
+        config,
+        &folder,
+        files,
+        archived.as_slice(),
+        newest,
+        now,
+        pacing,
+    )?;
+    Ok(cut.rebased())
+}
+
+/// Begins an era after the generation that counts in a folder with these files. `Gap` comes if a log
+/// of the archive is not before that generation, and then `NoHistory` if there is none.
+fn rebase_newest<'a, R: Files<File = File>>(
+    files: &R,
+    alloc: Global,
+    config: &Config,
+    folder: &Folder,
+    names: &[FileName],
+    archived: &[FileName],
+    newest: Newest,
+    now: u64,
+    pacing: Pacing<'a>,
+) -> Result<CutEra<'a>, StartFault>
+    requires { IsNewestBegun names.now newest }
+    ensures earlier { OnOk result (All (IsEarlier (generation_in newest.begun)) archived.now) }
+    ensures from { IfOk result (λ cut. Some cut.from ≡ generation_in newest.begun) }
+    ensures era { IfOk result (λ cut. cut.begun.header.era ≡ greatest_by era_of names.now + 1) }
+    ensures written { IfOk result (λ cut. cut.begun.store.header ≡ cut.begun.header) }
+    ensures key { IfOk result (λ cut. cut.begun.key.generation ≡ generation_named cut.begun.header) }
+    ensures table { IfOk result (λ cut. IfSome newest.begun (λ begun.
+        cut.begun.header.digest ≡ begun.header.digest)) }
+    ensures cut { IfOk result (λ cut. IfSome newest.begun (λ begun.
+        HasCut config.now begun now cut.begun.store.books cut.moments)) }
+{
+    check_archive(archived, newest.generation())?;
+    match newest.into_begun() {
+        Some(begun) => rebase_begun(files, alloc, config, folder, names, begun, now, pacing),
         None => Err(StartFault::NoHistory),
     }
 }
 
 /// Begins an era after a generation.
-fn rebase_begun<R: Files<File = File>>(
+fn rebase_begun<'a, R: Files<File = File>>(
     files: &R,
     alloc: Global,
     config: &Config,
@@ -65,90 +98,20 @@ fn rebase_begun<R: Files<File = File>>(
     names: &[FileName],
     begun: Begun,
     now: u64,
-) -> Result<Rebased, StartFault>
-    ensures from { IfOk result (λ rebased. rebased.from ≡ begun.generation) }
-    ensures era { IfOk result (λ rebased. rebased.era ≡ greatest_by era_of names.now + 1) }
-{
-    let ticks = Ticks::new();
-    let pacing = Pacing {
-        pace: Pace::Always,
-        ticks: &ticks,
-    };
-    let from = begun.generation;
-    let table = read_table(files, alloc, folder, &begun)?;
-    check_accounts(alloc, config, from.era, &table)?;
-    let former = reopen(alloc, config, &table, begun, pacing)?;
-    let cut = cut_from(
-        files, alloc, config, folder, names, &table, &former, now, pacing,
-    )?;
-    Ok(Rebased {
-        from,
-        era: cut.begun.header.era,
-        moments: cut.moments,
-    })
-}
-
-/// An era that was begun with cut books.
-#[derive(Drop)]
-struct CutEra<'a> {
-    /// The era.
-    begun: NewEra<'a>,
-    /// The number of moments that were cut, at most 2^64 - 1.
-    moments: u64,
-}
-
-/// Begins an era with the table of an opened generation, and with the books of its log, cut to a
-/// moment.
-fn cut_from<'a, R: Files<File = File>>(
-    files: &R,
-    alloc: Global,
-    config: &Config,
-    folder: &Folder,
-    names: &[FileName],
-    table: &EraTable,
-    former: &Former<'_>,
-    now: u64,
     pacing: Pacing<'a>,
 ) -> Result<CutEra<'a>, StartFault>
-    ensures server { IfOk result (λ cut. IsServerOf config.now cut.begun.store.books) }
-    ensures books { IfOk result (λ cut. IsServerOf config.now former.now.opened.store.books →
-        cut.begun.store.books ≡ cut_server now former.now.opened.store.books) }
-    ensures moments { IfOk result (λ cut. late_in_server now former.now.opened.store.books < 2 ^ 64 →
-        cut.moments ≡ late_in_server now former.now.opened.store.books) }
-    ensures table { IfOk result (λ cut. cut.begun.header.digest ≡ md5 table.now.octets.items) }
+    ensures from { IfOk result (λ cut. cut.from ≡ begun.generation) }
     ensures era { IfOk result (λ cut. cut.begun.header.era ≡ greatest_by era_of names.now + 1) }
+    ensures written { IfOk result (λ cut. cut.begun.store.header ≡ cut.begun.header) }
+    ensures key { IfOk result (λ cut. cut.begun.key.generation ≡ generation_named cut.begun.header) }
+    ensures table { IfOk result (λ cut. cut.begun.header.digest ≡ begun.header.digest) }
+    ensures cut { IfOk result (λ cut.
+        HasCut config.now begun now cut.begun.store.books cut.moments) }
 {
-    let books = former.opened.store.books();
-    let CutBooks { books, moments } = cut_books(alloc, config, former.generation, books, now)?;
-    let table = table.octets.as_slice();
-    let begun = begin_era(files, alloc, config, folder, names, table, books, pacing)?;
-    Ok(CutEra { begun, moments })
-}
-
-/// The books of a generation, cut to a moment. They can be restored, so `Misfit` comes for no books
-/// of a log (`rld_books::laws::cut_books_fit`).
-fn cut_books(
-    alloc: Global,
-    config: &Config,
-    generation: Generation,
-    books: &ServerBooks,
-    now: u64,
-) -> Result<CutBooks, StartFault>
-    ensures server { IfOk result (λ cut. IsServerOf config.now cut.books) }
-    ensures cut { IfOk result (λ cut. IsServerOf config.now books.now →
-        cut.books ≡ cut_server now books.now) }
-    ensures moments { IfOk result (λ cut. late_in_server now books.now < 2 ^ 64 →
-        cut.moments ≡ late_in_server now books.now) }
-{
-    match books.cut(alloc, config, now) {
-        Ok(cut) => Ok(cut),
-        Err(ServerFault::NoMemory) => Err(StartFault::NoMemory),
-        Err(fault) => {
-            let wrong = Wrong {
-                offset: 0,
-                cause: Cause::Misfit(fault),
-            };
-            Err(StartFault::bad(FileName::Log(generation), wrong))
-        }
-    }
+    let table = read_table(files, alloc, folder, &begun)?;
+    check_accounts(alloc, config, begun.generation().era, &table)?;
+    let former = reopen(alloc, config, &table, begun, pacing)?;
+    cut_from(
+        files, alloc, config, folder, names, &table, &former, now, pacing,
+    )
 }

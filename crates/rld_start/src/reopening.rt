@@ -1,9 +1,11 @@
 //! Opening a generation that was begun again.
 
 ghost use Rattle.std.specs.Prelude.{◌≡◌, ℕ, List, [], IfOk, IsTrue, OnOk};
+ghost use Rattle.md5.specs.Md5.{md5};
 ghost use Rattle.rld_books.specs.Saved.{IsServerOf};
-ghost use Rattle.rld_spelling.specs.Eras.{era_octets};
+ghost use Rattle.rld_spelling.specs.Eras.{EraSeen, era_octets};
 ghost use Rattle.rld_spelling.specs.Tables.{table_of};
+ghost use Rattle.rld_start.specs.Going.{IsOpened};
 ghost use Rattle.rld_store.specs.Generations.{HasHistory};
 ghost use Rattle.rld_store.specs.Standing.{StandsFor};
 ghost use Rattle.rsl_shard.specs.Restep.{BooksSeen};
@@ -18,6 +20,7 @@ use crate::table::boot_of;
 use rld_admit::is_era_file;
 use rld_folder::{FileName, Folder, Generation};
 use rld_log::{FileLog, Frames, Log, PacedLog, Pacing};
+use rld_spelling::Header;
 use rld_store::{Opened, Store};
 use rsl_accounts::Config;
 use std::alloc::Global;
@@ -37,6 +40,8 @@ pub(crate) struct EraTable {
 pub(crate) struct Former<'a> {
     /// The generation.
     pub(crate) generation: Generation,
+    /// Its header.
+    pub(crate) header: Header,
     /// The boot number of its era.
     pub(crate) boot: u64,
     /// Its books and its log, and what was found in it.
@@ -49,12 +54,17 @@ pub(crate) fn read_table<R: Files<File = File>>(
     alloc: Global,
     folder: &Folder,
     begun: &Begun,
-) -> Result<EraTable, StartFault> {
-    let octets = read_era(files, alloc, folder, begun.generation.era)?;
-    let boot = boot_of(alloc, begun.generation.era, octets.as_slice())?;
-    match check_header(&begun.header, begun.generation, octets.as_slice()) {
+) -> Result<EraTable, StartFault>
+    ensures boot { IfOk result (λ table.
+        (era : EraSeen) × ((table.octets.items ≡ era_octets era) × (era.boot ≡ table.boot))) }
+    ensures named { IfOk result (λ table. begun.now.header.digest ≡ md5 table.octets.items) }
+{
+    let generation = begun.generation();
+    let octets = read_era(files, alloc, folder, generation.era)?;
+    let boot = boot_of(alloc, generation.era, octets.as_slice())?;
+    match check_header(&begun.header(), generation, octets.as_slice()) {
         Ok(()) => Ok(EraTable { octets, boot }),
-        Err(wrong) => Err(StartFault::bad(FileName::Log(begun.generation), wrong)),
+        Err(wrong) => Err(StartFault::bad(FileName::Log(generation), wrong)),
     }
 }
 
@@ -84,19 +94,20 @@ pub(crate) fn reopen<'a>(
 ) -> Result<Former<'a>, StartFault>
     requires { (boot : ℕ) × (table.now.octets.items ≡ era_octets (table_of boot config.now)) }
     ensures generation { IfOk result (λ former. former.generation ≡ begun.generation) }
+    ensures header { IfOk result (λ former. former.header ≡ begun.header) }
     ensures boot { IfOk result (λ former. former.boot ≡ table.now.boot) }
     ensures server { IfOk result (λ former. IsServerOf config.now former.opened.store.books) }
+    ensures found { IfOk result (λ former. IsOpened config.now begun.frames.octets.items
+        former.opened.header former.opened.store.books former.opened.moves) }
 {
-    let Begun {
-        generation,
-        log,
-        frames,
-        ..
-    } = begun;
+    let generation = begun.generation();
+    let header = begun.header();
+    let (log, frames) = begun.into_log();
     let log = PacedLog::new(log, pacing);
     let opened = open_store(alloc, config, generation, log, &frames)?;
     Ok(Former {
         generation,
+        header,
         boot: table.boot,
         opened,
     })
@@ -112,6 +123,8 @@ fn open_store<L: Log + Drop>(
 ) -> Result<Opened<L>, StartFault>
     requires { IsTrue (L.tells log) → frames.now.octets.items ≡ L.seen log }
     ensures server { IfOk result (λ opened. IsServerOf config.now opened.store.books) }
+    ensures found { IfOk result (λ opened. IsOpened config.now frames.now.octets.items
+        opened.header opened.store.books opened.moves) }
     ensures stands { IfOk result (λ opened. IsTrue (L.tells opened.store.log) →
         (opening : List BooksSeen) (history : List OneMove) →
         HasHistory config.now opening history (L.seen log) →

@@ -1,15 +1,20 @@
 //! Starting a server from its folder.
 
-ghost use Rattle.std.specs.Prelude.{◌≡◌, ◌+◌, All, IfNone, IfOk, IsTrue, None, OnOk, Some};
+ghost use Rattle.std.specs.Prelude.{◌≡◌, ◌+◌, All, IfNone, IfOk, IfSome, IsTrue, MatchOption, None, OnOk, Some};
+ghost use Rattle.md5.specs.Md5.{md5};
 ghost use Rattle.rld_books.specs.Saved.{IsServerOf};
 ghost use Rattle.rld_books.specs.Server.{new_server};
 ghost use Rattle.rld_spelling.specs.Eras.{era_octets};
 ghost use Rattle.rld_spelling.specs.Tables.{table_of};
 ghost use Rattle.rld_start.specs.Beginnings.{HasHistory, may_start};
-ghost use Rattle.rld_start.specs.Founds.{IsFrom, generation_in};
+ghost use Rattle.rld_start.specs.Behind.{IsBehind};
+ghost use Rattle.rld_start.specs.Counted.{AreSessionsOf};
+ghost use Rattle.rld_start.specs.Founds.{IsFrom, IsNewestBegun, generation_in};
 ghost use Rattle.rld_start.specs.Gaps.{IsEarlier};
-ghost use Rattle.rld_start.specs.NextHeaders.{header_after};
+ghost use Rattle.rld_start.specs.Going.{Follows, GoesOn, IsBootOf};
+ghost use Rattle.rld_start.specs.NextHeaders.{generation_named, header_after};
 ghost use Rattle.rld_start.specs.Numbers.{era_of, generation_of, greatest_by};
+ghost use Rattle.rld_start.specs.NewNumbers.{IsNewNumber};
 
 use crate::beginning::{check_history, open_folder};
 use crate::behind::behind_books;
@@ -18,16 +23,16 @@ use crate::count::{Found, sessions_in};
 use crate::fault::StartFault;
 use crate::files::create_log;
 use crate::gap::check_archive;
-use crate::header::next_header;
+use crate::header::{generation_named, next_header};
 use crate::new_era::{NewEra, begin_era};
-use crate::newest::{Begun, Newest, generation_in, newest_begun};
+use crate::newest::{Begun, Newest, newest_begun};
 use crate::number::next_generation;
 use crate::refused::log_refused;
 use crate::reopening::{EraTable, Former, read_table, reopen};
 use rld_admit::{era_file, is_era_file};
 use rld_books::ServerBooks;
 use rld_config::NewHistory;
-use rld_folder::{FileName, Folder, Generation};
+use rld_folder::{FileName, Folder, LogKey, NewLog};
 use rld_log::{FileLog, PacedLog, Pacing};
 use rld_spelling::Header;
 use rld_store::{Opened, Store};
@@ -48,6 +53,8 @@ pub struct Started<'a> {
     pub found: Found,
     /// The header of the new generation, from which the next one follows.
     pub header: Header,
+    /// The right to remove the log of the new generation, which has the generation of its name.
+    pub key: LogKey,
 }
 
 /// Starts a server from its folder: opens and locks it, and goes on from the newest generation that
@@ -76,13 +83,17 @@ pub fn start<'a, R: Files<File = File> + Alloc<A = Global> + Clone + Drop>(
     now: u64,
     pacing: Pacing<'a>,
 ) -> Result<Started<'a>, StartFault>
+    ensures written { IfOk result (λ started. started.store.header ≡ started.header) }
+    ensures key { IfOk result (λ started. started.key.generation ≡ generation_named started.header) }
     ensures server { IfOk result (λ started. IsServerOf config.now started.store.books) }
+    ensures table { IfOk result (λ started. started.header.digest ≡ md5 (era_octets (table_of started.boot config.now))) }
+    ensures sessions { IfOk result (λ started. AreSessionsOf started.store.books started.found.sessions) }
     ensures history { IfOk result (λ started. HasHistory new_history started.found) }
 {
     let folder = open_folder(rt, alloc, path, new_history)?;
     let files = folder.files(rt)?;
     let files = files.as_slice();
-    let Newest { begun, .. } = newest_begun(rt, alloc, &folder, files)?;
+    let newest = newest_begun(rt, alloc, &folder, files)?;
     let archived = folder.archived(rt)?;
     take_up(
         rt,
@@ -91,7 +102,7 @@ pub fn start<'a, R: Files<File = File> + Alloc<A = Global> + Clone + Drop>(
         folder,
         files,
         archived.as_slice(),
-        begun,
+        newest,
         new_history,
         now,
         pacing,
@@ -108,22 +119,32 @@ fn take_up<'a, R: Files<File = File>>(
     folder: Folder,
     names: &[FileName],
     archived: &[FileName],
-    begun: Option<Begun>,
+    newest: Newest,
     new_history: NewHistory,
     now: u64,
     pacing: Pacing<'a>,
 ) -> Result<Started<'a>, StartFault>
+    requires { IsNewestBegun names.now newest }
+    ensures written { IfOk result (λ started. started.store.header ≡ started.header) }
+    ensures key { IfOk result (λ started. started.key.generation ≡ generation_named started.header) }
     ensures server { IfOk result (λ started. IsServerOf config.now started.store.books) }
-    ensures earlier { OnOk result (All (IsEarlier (generation_in begun)) archived.now) }
-    ensures may { OnOk result (IsTrue (may_start new_history (generation_in begun))) }
-    ensures from { IfOk result (λ started. IsFrom (generation_in begun) started.found) }
+    ensures earlier { OnOk result (All (IsEarlier (generation_in newest.begun)) archived.now) }
+    ensures may { OnOk result (IsTrue (may_start new_history (generation_in newest.begun))) }
+    ensures from { IfOk result (λ started. IsFrom (generation_in newest.begun) started.found) }
+    ensures number { IfOk result (λ started. IsNewNumber names.now started.header) }
+    ensures boot { IfOk result (λ started. MatchOption newest.begun (started.boot ≡ now)
+        (λ begun. IsBootOf begun.header started.boot)) }
+    ensures table { IfOk result (λ started. started.header.digest ≡ md5 (era_octets (table_of started.boot config.now))) }
+    ensures sessions { IfOk result (λ started. AreSessionsOf started.store.books started.found.sessions) }
     ensures history { IfOk result (λ started. HasHistory new_history started.found) }
-    ensures new { IfOk result (λ started. IfNone begun (started.store.books ≡ new_server config.now)) }
+    ensures follows { IfOk result (λ started. IfSome newest.begun (λ begun.
+        Follows config.now begun started.header started.store.books)) }
+    ensures new { IfOk result (λ started. IfNone newest.begun (started.store.books ≡ new_server config.now)) }
 {
-    let generation = generation_in(&begun);
+    let generation = newest.generation();
     check_archive(archived, generation)?;
     check_history(generation, new_history)?;
-    match begun {
+    match newest.into_begun() {
         Some(begun) => follow(files, alloc, config, folder, names, begun, now, pacing),
         None => begin(files, alloc, config, folder, names, now, pacing),
     }
@@ -139,12 +160,16 @@ fn begin<'a, R: Files<File = File>>(
     boot: u64,
     pacing: Pacing<'a>,
 ) -> Result<Started<'a>, StartFault>
+    ensures written { IfOk result (λ started. started.store.header ≡ started.header) }
+    ensures key { IfOk result (λ started. started.key.generation ≡ generation_named started.header) }
     ensures server { IfOk result (λ started. IsServerOf config.now started.store.books) }
     ensures boot { IfOk result (λ started. started.boot ≡ boot) }
     ensures era { IfOk result (λ started. started.header.era ≡ greatest_by era_of names.now + 1) }
     ensures first { IfOk result (λ started.
         (started.header.generation ≡ 1) × (started.header.lines ≡ 0)) }
     ensures books { IfOk result (λ started. started.store.books ≡ new_server config.now) }
+    ensures table { IfOk result (λ started. started.header.digest ≡ md5 (era_octets (table_of started.boot config.now))) }
+    ensures sessions { IfOk result (λ started. AreSessionsOf started.store.books started.found.sessions) }
     ensures found { IfOk result (λ started. IsFrom None started.found) }
 {
     let table = era_file(alloc, config, boot)?;
@@ -159,12 +184,12 @@ fn begin<'a, R: Files<File = File>>(
         books,
         pacing,
     )?;
-    let NewEra { store, header } = begun;
+    let NewEra { store, header, key } = begun;
     let found = Found {
         era: header.era,
         generation: 0,
         moves: 0,
-        sessions: 0,
+        sessions: sessions_in(store.rows(alloc)?.as_slice()),
         torn: 0,
         behind: None,
         admitted: None,
@@ -175,6 +200,7 @@ fn begin<'a, R: Files<File = File>>(
         boot,
         found,
         header,
+        key,
     })
 }
 
@@ -190,8 +216,16 @@ fn follow<'a, R: Files<File = File>>(
     now: u64,
     pacing: Pacing<'a>,
 ) -> Result<Started<'a>, StartFault>
+    ensures written { IfOk result (λ started. started.store.header ≡ started.header) }
+    ensures key { IfOk result (λ started. started.key.generation ≡ generation_named started.header) }
     ensures server { IfOk result (λ started. IsServerOf config.now started.store.books) }
     ensures from { IfOk result (λ started. IsFrom (Some begun.generation) started.found) }
+    ensures number { IfOk result (λ started. IsNewNumber names.now started.header) }
+    ensures boot { IfOk result (λ started. IsBootOf begun.header started.boot) }
+    ensures follows { IfOk result (λ started.
+        Follows config.now begun started.header started.store.books) }
+    ensures table { IfOk result (λ started. started.header.digest ≡ md5 (era_octets (table_of started.boot config.now))) }
+    ensures sessions { IfOk result (λ started. AreSessionsOf started.store.books started.found.sessions) }
 {
     let table = read_table(files, alloc, &folder, &begun)?;
     if is_era_file(alloc, config, table.boot, table.octets.as_slice())? {
@@ -217,13 +251,23 @@ fn go_on<'a, R: Files<File = File>>(
     now: u64,
     pacing: Pacing<'a>,
 ) -> Result<Started<'a>, StartFault>
-    requires { table.now.octets.items ≡ era_octets (table_of table.now.boot config.now) }
+    requires spelled { table.now.octets.items ≡ era_octets (table_of table.now.boot config.now) }
+    requires named { begun.header.digest ≡ md5 table.now.octets.items }
+    ensures written { IfOk result (λ started. started.store.header ≡ started.header) }
+    ensures key { IfOk result (λ started. started.key.generation ≡ generation_named started.header) }
     ensures server { IfOk result (λ started. IsServerOf config.now started.store.books) }
     ensures boot { IfOk result (λ started. started.boot ≡ table.now.boot) }
     ensures found { IfOk result (λ started. IsFrom (Some begun.generation) started.found) }
     ensures era { IfOk result (λ started. started.found.era ≡ begun.generation.era) }
     ensures generation { IfOk result (λ started. started.found.generation ≡ begun.generation.number) }
     ensures moves { IfOk result (λ started. started.found.moves ≡ started.header.lines) }
+    ensures goes_on { IfOk result (λ started.
+        GoesOn config.now begun started.header started.store.books) }
+    ensures number { IfOk result (λ started. (started.header.era ≡ begun.header.era)
+        × (started.header.generation ≡ greatest_by (generation_of begun.header.era) names.now + 1)) }
+    ensures new { IfOk result (λ started. IsNewNumber names.now started.header) }
+    ensures table { IfOk result (λ started. started.header.digest ≡ md5 (era_octets (table_of started.boot config.now))) }
+    ensures sessions { IfOk result (λ started. AreSessionsOf started.store.books started.found.sessions) }
 {
     let former = reopen(alloc, config, table, begun, pacing)?;
     go_on_from(files, alloc, config, folder, names, former, now, pacing)
@@ -240,6 +284,8 @@ fn go_on_from<'a, R: Files<File = File>>(
     now: u64,
     pacing: Pacing<'a>,
 ) -> Result<Started<'a>, StartFault>
+    ensures written { IfOk result (λ started. started.store.header ≡ started.header) }
+    ensures key { IfOk result (λ started. started.key.generation ≡ generation_named started.header) }
     ensures books { IfOk result (λ started.
         started.store.books ≡ former.entry.opened.store.books) }
     ensures boot { IfOk result (λ started. started.boot ≡ former.entry.boot) }
@@ -248,20 +294,25 @@ fn go_on_from<'a, R: Files<File = File>>(
     ensures generation { IfOk result (λ started.
         started.found.generation ≡ former.entry.generation.number) }
     ensures moves { IfOk result (λ started. started.found.moves ≡ started.header.lines) }
-    ensures header { IfOk result (λ started. started.header ≡ header_after former.entry.opened.header
-        (greatest_by (generation_of former.entry.opened.header.era) names.now + 1)
+    ensures torn { IfOk result (λ started. started.found.torn ≡ former.entry.opened.torn) }
+    ensures behind { IfOk result (λ started.
+        IsBehind config.now former.entry.opened.store.books now started.found.behind) }
+    ensures header { IfOk result (λ started. started.header ≡ header_after former.entry.header
+        (greatest_by (generation_of former.entry.header.era) names.now + 1)
         former.entry.opened.moves) }
+    ensures sessions { IfOk result (λ started. AreSessionsOf started.store.books started.found.sessions) }
 {
     let Former {
         generation,
+        header,
         boot,
         opened,
     } = former;
     let Opened {
         mut store,
-        header,
         moves,
         torn,
+        ..
     } = opened;
     let header = following(&header, names, moves as u64)?;
     let found = Found {
@@ -273,13 +324,14 @@ fn go_on_from<'a, R: Files<File = File>>(
         behind: behind_books(config, store.books(), now),
         admitted: None,
     };
-    renew(files, alloc, &folder, &mut store, header, pacing)?;
+    let key = renew(files, alloc, &folder, &mut store, header, pacing)?;
     Ok(Started {
         folder,
         store,
         boot,
         found,
         header,
+        key,
     })
 }
 
@@ -297,7 +349,7 @@ fn following(header: &Header, names: &[FileName], moves: u64) -> Result<Header, 
     }
 }
 
-/// Lets a store go on in the log of a new generation.
+/// Lets a store go on in the log of a new generation, and gives the key of that log.
 fn renew<'a, R: Files<File = File>>(
     files: &R,
     alloc: Global,
@@ -305,16 +357,15 @@ fn renew<'a, R: Files<File = File>>(
     store: &mut Store<PacedLog<'a, FileLog>>,
     header: Header,
     pacing: Pacing<'a>,
-) -> Result<(), StartFault>
-    ensures { store.new.books ≡ store.old.books }
+) -> Result<LogKey, StartFault>
+    ensures books { store.new.books ≡ store.old.books }
+    ensures header { OnOk result (store.new.header ≡ header) }
+    ensures key { IfOk result (λ key. key.generation ≡ generation_named header) }
 {
-    let generation = Generation {
-        era: header.era,
-        number: header.generation,
-    };
-    let log = create_log(files, alloc, folder, generation)?;
+    let generation = generation_named(&header);
+    let NewLog { key, log } = create_log(files, alloc, folder, generation)?;
     match store.roll(alloc, header, PacedLog::new(log, pacing)) {
-        Ok(_older) => Ok(()),
+        Ok(_older) => Ok(key),
         Err(refused) => Err(log_refused(generation, refused.fault)),
     }
 }

@@ -2,7 +2,7 @@
 
 ghost use Rattle.std.specs.Prelude.{◌≡◌, ℕ, IfOk};
 ghost use Rattle.rld_fields.specs.Lists.{all_of};
-ghost use Rattle.rld_spelling.specs.Eras.{era_octets};
+ghost use Rattle.rld_spelling.specs.Eras.{EraSeen, era_octets};
 ghost use Rattle.rld_spelling.specs.Tables.{table_of};
 
 use crate::fault::StartFault;
@@ -24,7 +24,9 @@ fn malformed(era: u64, len: usize, fault: Fault) -> StartFault {
 }
 
 /// The boot number of an era with this file.
-pub(crate) fn boot_of(alloc: Global, era: u64, file: &[u8]) -> Result<u64, StartFault> {
+pub(crate) fn boot_of(alloc: Global, era: u64, file: &[u8]) -> Result<u64, StartFault>
+    ensures { IfOk result (λ boot. (era : EraSeen) × ((file.now ≡ era_octets era) × (era.boot ≡ boot))) }
+{
     match Era::read(alloc, file) {
         Ok(table) => Ok(table.boot),
         Err(ReadFault::NoMemory) => Err(StartFault::NoMemory),

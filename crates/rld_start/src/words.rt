@@ -1,10 +1,9 @@
-//! The messages of a start and of a rebase.
+//! The message of a start.
 
 ghost use Rattle.std.specs.Prelude.{◌≡◌, ◌++◌, IfOk, OnOk, string_bytes};
 ghost use Rattle.rld_start.specs.Greeting.{admitted_text, behind_text, generation_text, numbered, torn_text};
 
 use crate::count::{Admitted, Found};
-use crate::rebasing::Rebased;
 use std::alloc::{AllocError, Global};
 
 impl Found {
@@ -26,26 +25,6 @@ impl Found {
         write_torn(&mut text, self.torn)?;
         write_admitted(&mut text, self.sessions, self.admitted)?;
         write_behind(&mut text, self.behind)?;
-        Ok(text)
-    }
-}
-
-impl Rebased {
-    ghost use Rattle.rld_start.specs.Rebased.{rebased};
-
-    /// The message of a rebase, in one line with its line feed: the generation whose books were
-    /// cut, how many moments were, and the era that begins with them. It fails only if memory is
-    /// refused.
-    pub fn line(&self, alloc: Global) -> Result<String, AllocError>
-        ensures { IfOk result (λ text. string_bytes text ≡ rebased self.now) }
-    {
-        let mut text = String::new(alloc);
-        write_number(&mut text, "era ", self.from.era)?;
-        write_number(&mut text, ", generation ", self.from.number)?;
-        write_number(&mut text, ": ", self.moments)?;
-        write_text(&mut text, " moments cut; ")?;
-        write_number(&mut text, "era ", self.era)?;
-        write_text(&mut text, " begins\n")?;
         Ok(text)
     }
 }
@@ -107,14 +86,14 @@ fn write_behind(text: &mut String, behind: Option<u64>) -> Result<(), AllocError
 }
 
 /// Writes a text.
-fn write_text(text: &mut String, more: &str) -> Result<(), AllocError>
+pub(crate) fn write_text(text: &mut String, more: &str) -> Result<(), AllocError>
     ensures { OnOk result (string_bytes text.new ≡ string_bytes text.old ++ more.now) }
 {
     text.push_str(more)
 }
 
 /// Writes a text and a number.
-fn write_number(text: &mut String, before: &str, number: u64) -> Result<(), AllocError>
+pub(crate) fn write_number(text: &mut String, before: &str, number: u64) -> Result<(), AllocError>
     ensures { OnOk result
         (string_bytes text.new ≡ string_bytes text.old ++ numbered before.now number) }
 {

@@ -54,9 +54,9 @@ network_warnings networks = map (λ network. Prefixed network.prefix) networks
 abbrev pub mode_warning : (mode : ℕ) → List Warning
 mode_warning mode = if others_read mode then OthersRead ∷ [] else []
 
--- the octets of a book: 3,440 with one link, and 172 for each further one
+-- the octets of a book: 3,522 with one link, and 223 for each further one
 unfoldable pub book_octets : Rules → ℕ
-book_octets rules = 3268 + 172 * (rules.places * rules.ports)
+book_octets rules = 3299 + 223 * (rules.places * rules.ports)
 
 abbrev pub books_octets : List Entry → ℕ
 books_octets [] = 0

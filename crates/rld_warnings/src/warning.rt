@@ -32,10 +32,10 @@ use std::fmt;
 const SECRET_LEN: usize = 16;
 
 /// The octets of a book without links.
-const BOOK: u64 = 3_268;
+const BOOK: u64 = 3_299;
 
 /// The octets of each link that a book has room for.
-const LINK: u64 = 172;
+const LINK: u64 = 223;
 
 /// Octets of a megabyte.
 const MEGABYTE: u64 = 1_000_000;
@@ -260,11 +260,11 @@ fn warn_of_mode(mode: u32, warnings: &mut Vec<Warning>) -> Result<(), NoMemory>
     Ok(())
 }
 
-/// The octets of memory of the accounts' books: 3,440 for each with one link, and 172 for each
+/// The octets of memory of the accounts' books: 3,522 for each with one link, and 223 for each
 /// further link.
 pub fn books_octets(config: &Config) -> u64
     ensures value { result ≡ books_octets config.now.accounts }
-    ensures most { result ≤ 179396 * length config.now.accounts }
+    ensures most { result ≤ 231651 * length config.now.accounts }
     ensures few { length config.now.accounts ≤ 16384 }
 {
     let mut octets = 0;
@@ -279,14 +279,14 @@ pub fn books_octets(config: &Config) -> u64
 fn book_octets(rules: &Rules) -> u64
     requires { RulesFit rules.now }
     ensures value { result ≡ book_octets rules.now }
-    ensures most { result ≤ 179396 }
+    ensures most { result ≤ 231651 }
 {
     BOOK + LINK * (rules.places * rules.ports)
 }
 
 /// Millions of octets, rounded up.
 fn megabytes(octets: u64) -> u64
-    requires { octets ≤ 2939224064 }
+    requires { octets ≤ 3795369984 }
     ensures { result ≡ megabytes octets }
 {
     (octets + (MEGABYTE - 1)) / MEGABYTE

@@ -1,6 +1,6 @@
 use Rattle.std.proofs.Common.{All, List, Some, subst, sym}
 use Rattle.rld_start.specs.Founds.{IsLookAt, IsPassed}
-use Rattle.rld_start.specs.declared.newest.Unbegun.{Unbegun}
+use Rattle.rld_start.specs.declared.look.Unbegun.{Unbegun}
 use Rattle.rld_start.proofs.Passed.{counts_among, one_passed}
 use Rattle.rld_start.proofs.newest.newest_begun.Goals as goal
 

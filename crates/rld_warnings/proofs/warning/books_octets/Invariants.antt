@@ -5,5 +5,5 @@ use Rattle.rld_warnings.proofs.warning.books_octets.Given as goal
 abbrev pub invariant-loop-number : goal.invariant-loop-number
 invariant-loop-number l = record {
   value : l.octets ≡ books_octets (take l.number l.config.accounts);
-  most : l.octets ≤ 179396 * l.number;
+  most : l.octets ≤ 231651 * l.number;
 }
