@@ -32,11 +32,11 @@ pub record IsOffOf (config : Configuration) (named : NamedServer) (off : Off) : 
   pub nas : off.nas.name ≡ named.nas
   pub octets : off.octets.items ≡ off_octets named (secret_of config off.nas.client)
 
--- its datagram, from the client's address, means to the server that this access server restarts
+-- its datagram, from the client's address, means to the server that this access server restarts now
 abbrev pub MeansOff : Configuration → (boot : ℕ) → Source → Off → Type 0
 MeansOff config boot source off =
-    meaning config boot Acct source off.octets.items ≡ Ok (Restart off.nas)
+    meaning config boot Acct source off.octets.items ≡ Ok (Restart off.nas 0)
 
 -- the move that it is to the books at a moment
 abbrev pub sweep_of : Off → (moment : ℕ) → Move
-sweep_of off moment = Sweep moment off.nas
+sweep_of off moment = Sweep moment off.nas 0

@@ -58,7 +58,11 @@ impl Off {
         ensures { result ≡ sweep_of self moment }
     {
         let Off { nas, octets: _ } = self;
-        Move::Sweep { moment, nas }
+        Move::Sweep {
+            moment,
+            nas,
+            delay: 0,
+        }
     }
 }
 
@@ -137,12 +141,12 @@ fn is_meant(
     }
 }
 
-/// Whether a meaning is that this access server restarts.
+/// Whether a meaning is that this access server restarts now.
 fn is_that(meaning: &Meaning, off: &Off) -> bool
-    ensures { IsTrue result → meaning.now ≡ meanings.Restart off.now.nas }
+    ensures { IsTrue result → meaning.now ≡ meanings.Restart off.now.nas 0 }
 {
     match meaning {
-        Meaning::Restart { nas } => nas.is_same(&off.nas),
+        Meaning::Restart { nas, delay } => *delay == 0 && nas.is_same(&off.nas),
         _ => false,
     }
 }

@@ -28,10 +28,6 @@ seen jobs.Disconnect = Disconnects
 seen jobs.Show = Shows
 seen jobs.Ask = Asks
 
--- how many receivers each of the two sockets has
-abbrev pub receivers_in : Pair → ℕ
-receivers_in pair = pair.receivers
-
 -- `receivers` receivers on a socket
 abbrev pub receivers_on : Bound → Port → ℕ → List JobSeen
 receivers_on socket port receivers = replicate receivers (Receives socket port)

@@ -1,6 +1,5 @@
 ghost use Rattle.std.specs.Prelude.{◌≡◌, map, IfOk};
-ghost use Rattle.rld_config.specs.declared.listen.Listen.{Listen as OneListen};
-ghost use Rattle.rld_edges.specs.Jobs.{receivers_in};
+ghost use Rattle.rld_edges.specs.Sockets.{pair_for, pair_seen};
 
 use crate::fault::RunFault;
 use rld_config::Listen;
@@ -22,6 +21,8 @@ const _: () = prove!(ASKING_MILLIS == 100 && ANY_PORT == 0);
 pub struct Bound {
     /// The socket, which does not block.
     pub socket: UdpSocket,
+    /// Where it is bound.
+    pub address: SocketAddr,
     /// Whether Status-Server packets are answered on it.
     pub status_server: bool,
 }
@@ -56,8 +57,8 @@ impl Sockets {
     /// a socket, the address is not this machine's, or the port is taken or not allowed. `NoMemory`
     /// comes if memory is refused. The sockets that were bound before are then closed.
     pub fn bind<N: Net>(net: &N, alloc: Global, listens: &[Listen]) -> Result<Sockets, RunFault>
-        ensures { IfOk result (λ sockets. map receivers_in sockets.pairs.items
-            ≡ map (λ (listen : OneListen). listen.receivers) listens.now) }
+        ensures { IfOk result (λ sockets.
+            map pair_seen sockets.pairs.items ≡ map pair_for listens.now) }
     {
         let mut pairs = Vec::new(alloc);
         for listen in listens {
@@ -108,7 +109,7 @@ fn v4_of(address: IpAddr) -> Ipv4Addr {
 
 /// The two sockets of a `[[listen]]`.
 fn pair_of<N: Net>(net: &N, listen: &Listen) -> Result<Pair, RunFault>
-    ensures { IfOk result (λ pair. pair.receivers ≡ listen.now.receivers) }
+    ensures { IfOk result (λ pair. pair_seen pair ≡ pair_for listen.now) }
 {
     let address = listen.address;
     let status_server = listen.status_server;
@@ -126,7 +127,8 @@ fn pair_of<N: Net>(net: &N, listen: &Listen) -> Result<Pair, RunFault>
 
 /// A socket bound to this address, which does not block.
 fn bind_socket<N: Net>(net: &N, address: SocketAddr, status_server: bool) -> Result<Bound, RunFault>
-    ensures { IfOk result (λ bound. bound.status_server ≡ status_server) }
+    ensures address { IfOk result (λ bound. bound.address ≡ address) }
+    ensures status_server { IfOk result (λ bound. bound.status_server ≡ status_server) }
 {
     let Ok(socket) = UdpSocket::bind(net, address) else {
         return Err(RunFault::Unbound(address));
@@ -134,6 +136,7 @@ fn bind_socket<N: Net>(net: &N, address: SocketAddr, status_server: bool) -> Res
     match socket.set_nonblocking(true) {
         Ok(()) => Ok(Bound {
             socket,
+            address,
             status_server,
         }),
         Err(_) => Err(RunFault::Unbound(address)),

@@ -1,3 +1,7 @@
+ghost use Rattle.std.specs.Prelude.{◌≡◌, IfSome, Some as some};
+ghost use Rattle.std.specs.Arc.{arc_value};
+ghost use Rattle.rld_edges.specs.Answered.{answer_from};
+
 use crate::order::{MOST_ORDERS, Order};
 use crate::step::Step;
 use circular_buffer::HeapCircularBuffer;
@@ -47,7 +51,11 @@ impl Sent {
     }
 
     /// What a datagram from this peer answers to it, if anything.
-    fn answer_in(&self, peer: SocketAddr, datagram: &[u8]) -> Option<Answer> {
+    fn answer_in(&self, peer: SocketAddr, datagram: &[u8]) -> Option<Answer>
+        ensures peer { IfSome result (λ _. peer ≡ self.now.to) }
+        ensures answer { IfSome result (λ answer. answer_from (arc_value self.now.order.config)
+            self.now.order.named.client self.now.octets.items datagram.now ≡ some answer) }
+    {
         if peer != self.to {
             return None;
         }

@@ -16,7 +16,7 @@ use Rattle.rld_export.specs.declared.session.End.{End}
 use Rattle.rld_export.specs.declared.session.Ended.{Ended}
 use Rattle.rld_export.specs.declared.session.Held.{Held}
 use Rattle.rld_export.specs.declared.session.Why.{Why}
-use Rattle.rld_export.specs.declared.session.Why.TheVariants.{Stop, Off, Silent, Yielded, Changed}
+use Rattle.rld_export.specs.declared.session.Why.TheVariants.{Stop, Off, Silent, Yielded}
 
 -- ---- what the clock ends
 
@@ -88,10 +88,10 @@ found began helds links = flat_map (held_one began helds) links
 
 -- why a session ended that has no link after an event, and had not lapsed before it
 abbrev pub why_of : Act → Why
-why_of (acts.Ask key nas) = Yielded
-why_of (acts.Alive nas session bundle class) = Yielded
+why_of (acts.Ask key nas station) = Yielded
+why_of (acts.Alive nas session bundle class station) = Yielded
 why_of (acts.Stop nas session) = Stop
-why_of (acts.Sweep nas) = Off
+why_of (acts.Sweep nas delay) = Off
 why_of acts.Tick = Silent
 
 -- the ends that a look at the book after an event finds, and the sessions that are held then

@@ -169,7 +169,9 @@ impl Following {
     ) -> Result<(), LinesFault> {
         match moved {
             Move::Own { account, event } => self.own(alloc, at, account, event, ends),
-            Move::Sweep { moment, nas } => Ok(self.sweep(alloc, moment, &nas, ends)?),
+            Move::Sweep { moment, nas, delay } => {
+                Ok(self.sweep(alloc, moment, &nas, delay, ends)?)
+            }
             Move::Tick { moment } => {
                 self.come_to(moment);
                 Ok(())
@@ -207,12 +209,13 @@ impl Following {
         Ok(push_ends(ends, account, sessions)?)
     }
 
-    /// Makes a restart of an access server, for every account.
+    /// Makes a restart of an access server, told `delay` seconds late, for every account.
     fn sweep(
         &mut self,
         alloc: Global,
         moment: u64,
         nas: &Nas,
+        delay: u64,
         ends: &mut Vec<Ends>,
     ) -> Result<(), NoMemory> {
         self.come_to(moment);
@@ -224,6 +227,7 @@ impl Following {
                 moment: self.clock,
                 act: Act::Sweep {
                     nas: nas.try_copy(alloc)?,
+                    delay,
                 },
             };
             let mut sessions = Vec::new(alloc);

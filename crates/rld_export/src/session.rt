@@ -30,7 +30,8 @@ pub(crate) enum Why {
     Off,
     /// Nothing was heard of it for its live and grace times.
     Silent,
-    /// It was stale, and its place went to another login of the account.
+    /// Its place went to another login of the account: it was stale, or of the station that logged
+    /// in.
     Yielded,
     /// It is not among what the next log begins with: the account file was changed, or a log is
     /// missing.

@@ -1,8 +1,9 @@
--- The links of an account, a line each: `NAME CLIENT NAS SESSION STATE age=SECS bundle=ID`. The
--- first four words name the session, and can follow `free`. A reserved link has no session yet: it
--- has `\-` instead, which no session is. Or a JSON object, a line each: the name of an access
--- server is `nas`, its NAS-Identifier, or `nas_address`, the hexadecimal digits of its
--- NAS-IP-Address, or a `nas` that is null; `free` has the four words.
+-- The links of an account, a line each: `NAME CLIENT NAS SESSION STATE age=SECS bundle=ID
+-- station=ID`, the last two where the link has them. The first four words name the session, and can
+-- follow `free`. A reserved link has no session yet: it has `\-` instead, which no session is. Or a
+-- JSON object, a line each: the name of an access server is `nas`, its NAS-Identifier, or
+-- `nas_address`, the hexadecimal digits of its NAS-IP-Address, or a `nas` that is null; `free` has
+-- the four words.
 use Rattle.std.specs.Prelude.{ℕ, ◌-◌, List, [], ◌∷◌, ◌++◌, codes, nat_lt, if◌then◌else◌, length, slice_get, Option, None, Some}
 use Rattle.std.specs.List.{flat_map}
 use Rattle.std.specs.Option.{option_map_or}
@@ -32,12 +33,17 @@ holder_words live age (Bound session) = 32 ∷ (word session ++ bound_state live
 abbrev pub client_address : Configuration → (client : ℕ) → List ℕ
 client_address config client = option_map_or (λ client. client.address) (slice_get config.clients client) []
 
+-- the ids of its bundle and of its station, where it has them
+unfoldable pub ids_words : SavedLink → List ℕ
+ids_words link =
+    octets_word_if (codes "bundle") link.bundle ++ octets_word_if (codes "station") link.station
+
 abbrev pub link_line : Configuration → (name : List ℕ) → (live now : ℕ) → SavedLink → List ℕ
 link_line config name live now link =
     server_words name (client_address config link.nas.client) link.nas.name
     ++ holder_words live (now - link.touched) link.holder
     ++ number_word (codes "age") (now - link.touched)
-    ++ octets_word_if (codes "bundle") link.bundle
+    ++ ids_words link
     ++ codes "\n"
 
 -- ---- a link as an object
@@ -65,9 +71,15 @@ abbrev pub holder_members : (live age : ℕ) → SavedHolder → List ℕ
 holder_members live age (Reserved number) = codes ",\"session\":null,\"state\":\"reserved\""
 holder_members live age (Bound session) = string_member (codes "session") session ++ bound_member live age
 
-abbrev pub bundle_member : Option (List ℕ) → List ℕ
-bundle_member None = []
-bundle_member (Some bundle) = string_member (codes "bundle") bundle
+-- octets, if there are any
+abbrev pub octets_member_if : (name : List ℕ) → Option (List ℕ) → List ℕ
+octets_member_if name None = []
+octets_member_if name (Some octets) = string_member name octets
+
+-- the ids of its bundle and of its station, where it has them
+unfoldable pub ids_members : SavedLink → List ℕ
+ids_members link =
+    octets_member_if (codes "bundle") link.bundle ++ octets_member_if (codes "station") link.station
 
 -- the four words for `free`, if there is a session
 abbrev pub free_member : (server : List ℕ) → SavedHolder → List ℕ
@@ -79,7 +91,7 @@ link_object config name live now link =
     server_members name (client_address config link.nas.client) link.nas.name
     ++ (holder_members live (now - link.touched) link.holder
     ++ (number_member (codes "age") (now - link.touched)
-    ++ (bundle_member link.bundle
+    ++ (ids_members link
     ++ (free_member (server_words name (client_address config link.nas.client) link.nas.name) link.holder ++ codes "}\n"))))
 
 -- ---- all links

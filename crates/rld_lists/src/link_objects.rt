@@ -1,7 +1,7 @@
 //! A link as a JSON object.
 
 ghost use Rattle.std.specs.Prelude.{◌≡◌, ◌<◌, ◌++◌, length, OnOk};
-ghost use Rattle.rld_lists.specs.Links.{bound_member, bundle_member, free_member, holder_members, link_object, nas_address_member, nas_member, server_members};
+ghost use Rattle.rld_lists.specs.Links.{bound_member, free_member, holder_members, ids_members, link_object, nas_address_member, nas_member, octets_member_if, server_members};
 
 use crate::links::Holder;
 use rld_control::push_server;
@@ -32,7 +32,7 @@ pub(crate) fn push_link_object(
     push_server_members(out, account, client.address, &link.nas.name)?;
     push_holder(out, holder.live, age, &link.holder)?;
     push_number_member(out, "age", age)?;
-    push_bundle(out, &link.bundle)?;
+    push_ids(out, link)?;
     push_free(alloc, out, server.as_slice(), &link.holder)?;
     push_text(out, "}\n")
 }
@@ -108,13 +108,26 @@ fn push_state(out: &mut Vec<u8>, live: u64, age: u64) -> Result<(), AllocError>
     }
 }
 
-/// Writes the bundle of a link, if it has one.
-fn push_bundle(out: &mut Vec<u8>, bundle: &Option<Octets>) -> Result<(), AllocError>
-    ensures { OnOk result (out.new.items ≡ out.old.items ++ bundle_member bundle.now) }
+/// Writes the ids of a link's bundle and of its station, where it has them.
+#[tactic(auto, unfolding(crate::specs::Links::ids_members))]
+fn push_ids(out: &mut Vec<u8>, link: &SavedLink) -> Result<(), AllocError>
+    ensures { OnOk result (out.new.items ≡ out.old.items ++ ids_members link.now) }
 {
-    match bundle {
+    push_octets_member_if(out, "bundle", &link.bundle)?;
+    push_octets_member_if(out, "station", &link.station)
+}
+
+/// Writes a member of octets, if there are any.
+fn push_octets_member_if(
+    out: &mut Vec<u8>,
+    name: &str,
+    octets: &Option<Octets>,
+) -> Result<(), AllocError>
+    ensures { OnOk result (out.new.items ≡ out.old.items ++ octets_member_if name.now octets.now) }
+{
+    match octets {
         None => Ok(()),
-        Some(bundle) => push_string_member(out, "bundle", bundle.as_slice()),
+        Some(octets) => push_string_member(out, name, octets.as_slice()),
     }
 }
 

@@ -1,5 +1,5 @@
 ghost use Rattle.std.specs.Prelude.{◌≡◌, ◌<◌, ◌++◌, length, IfOk, OnOk};
-ghost use Rattle.rld_lists.specs.Links.{bound_state, holder_words, link_line, link_text, links_text, text_if_known};
+ghost use Rattle.rld_lists.specs.Links.{bound_state, holder_words, ids_words, link_line, link_text, links_text, text_if_known};
 
 use crate::link_objects::push_link_object;
 use crate::words::{push_number_word, push_octets_word_if};
@@ -88,8 +88,17 @@ fn push_line(out: &mut Vec<u8>, holder: &Holder<'_>, link: &SavedLink) -> Result
     push_server(out, holder.name.as_bytes(), client.address, &link.nas.name)?;
     push_holder(out, holder.live, age, &link.holder)?;
     push_number_word(out, "age", age)?;
-    push_octets_word_if(out, "bundle", &link.bundle)?;
+    push_ids(out, link)?;
     push_text(out, "\n")
+}
+
+/// Writes the ids of a link's bundle and of its station, where it has them.
+#[tactic(auto, unfolding(crate::specs::Links::ids_words))]
+fn push_ids(out: &mut Vec<u8>, link: &SavedLink) -> Result<(), AllocError>
+    ensures { OnOk result (out.new.items ≡ out.old.items ++ ids_words link.now) }
+{
+    push_octets_word_if(out, "bundle", &link.bundle)?;
+    push_octets_word_if(out, "station", &link.station)
 }
 
 /// Writes what holds a link: its session and state, or that it is reserved.

@@ -130,24 +130,24 @@ can_end service port moment decisions taken (entry ∷ entries) old new (one, re
 asker : (config : Configuration) (m : Meaning) → HasAccount config m → HasAsker config (kind_of m)
 asker config Mean.Bare account = tt
 asker config Mean.Reject account = tt
-asker config (Mean.Own number (acts.Ask key nas)) account = account
-asker config (Mean.Own number (acts.Alive nas session bundle class)) account = tt
+asker config (Mean.Own number (acts.Ask key nas station)) account = account
+asker config (Mean.Own number (acts.Alive nas session bundle class station)) account = tt
 asker config (Mean.Own number (acts.Stop nas session)) account = tt
-asker config (Mean.Own number (acts.Sweep nas)) account = tt
+asker config (Mean.Own number (acts.Sweep nas delay)) account = tt
 asker config (Mean.Own number acts.Tick) account = tt
-asker config (Mean.Restart nas) account = tt
+asker config (Mean.Restart nas delay) account = tt
 asker config (Mean.Stray note) account = tt
 
 -- the reply has room
 room : (config : Configuration) (attributes : List ℕ) (m : Meaning) → HasRoomForReply config attributes m → HasRoomFor config attributes (kind_of m)
 room config attributes Mean.Bare has = tt
 room config attributes Mean.Reject has = has
-room config attributes (Mean.Own number (acts.Ask key nas)) has = has
-room config attributes (Mean.Own number (acts.Alive nas session bundle class)) has = has
+room config attributes (Mean.Own number (acts.Ask key nas station)) has = has
+room config attributes (Mean.Own number (acts.Alive nas session bundle class station)) has = has
 room config attributes (Mean.Own number (acts.Stop nas session)) has = has
-room config attributes (Mean.Own number (acts.Sweep nas)) has = has
+room config attributes (Mean.Own number (acts.Sweep nas delay)) has = has
 room config attributes (Mean.Own number acts.Tick) has = has
-room config attributes (Mean.Restart nas) has = has
+room config attributes (Mean.Restart nas delay) has = has
 room config attributes (Mean.Stray note) has = has
 
 -- what was made of a datagram that was understood is a request

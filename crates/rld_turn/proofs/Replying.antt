@@ -23,7 +23,7 @@ use Rattle.rld_turn.specs.Entered.{AreEntered, IsEntered, IsRequest}
 use Rattle.rld_turn.specs.Moves.{decided}
 use Rattle.rld_turn.specs.Recorded.{HasDecided, is_recorded}
 use Rattle.rsl_wire.specs.Packet.{packet_of}
-use Rattle.rld_turn.specs.Subject.{subject_in, subject_of}
+use Rattle.rld_turn.specs.Subject.{subject_in}
 use Rattle.rld_turn.specs.Told.{AreNumbersOf, HasTold, IsSentAs, Told, told_of}
 use Rattle.rld_turn.specs.Present.{ServiceSeen, meaning_of, origin_of, source_of}
 use Rattle.rld_turn.specs.Turned.{IsAnsweredBy, Turned, bare_told, request_told, NoneYet, ThenDropped, ThenRefused, ThenUnrecorded, ThenBare, ThenAnswered}
@@ -37,7 +37,7 @@ use Rattle.rld_turn.specs.declared.request.Entry.TheVariants.{Dropped, Refused, 
 use Rattle.rld_turn.specs.declared.request.Request.{Request}
 
 -- what was answered of a batch, and the entries that are left of it
-pub record AreAnswered (service : ServiceSeen) (port : Port) (moment : ℕ)
+pub record AreAnswered (service : ServiceSeen) (port : Port) (Tells : Type 0) (moment : ℕ)
     (decisions : Option (List Decision)) (begun : List BooksSeen) (taken : List PeerDatagram)
     (moves : List Move) (left : List Entry) (ends : Ends) (old new : List PeerDatagram)
     (old_told new_told : Option (List Told)) : Type 0 where
@@ -48,7 +48,7 @@ pub record AreAnswered (service : ServiceSeen) (port : Port) (moment : ℕ)
   pub sent : List PeerDatagram
   pub all : taken ≡ done ++ rest
   pub entered : AreEntered service port moment rest left batch moves
-  pub more_sent : new ≡ old ++ sent
+  pub more_sent : Tells → new ≡ old ++ sent
   pub more_told : HasTold told old_told new_told
   pub turned : Turned service port moment (is_recorded decisions) begun told done batch sent
   pub numbers : AreNumbersOf told ends.dropped ends.refused ends.unrecorded ends.answered ends.unsent
@@ -165,12 +165,12 @@ entry_told config (Bare request) end told e so = one_told (told_by_request confi
 entry_told config (Moved request place) end told e so = one_told (told_by_request config request end) told e so
 
 -- nothing more is left
-pub all_answered : (service : ServiceSeen) (port : Port) (decisions : Option (List Decision))
+pub all_answered : (service : ServiceSeen) (port : Port) (Tells : Type 0) (decisions : Option (List Decision))
     (entries : List Entry) (batch : Batch service port decisions entries) (left : List Entry) (e : Ends) (old new : List PeerDatagram)
     (old_told new_told : Option (List Told)) → left ≡ []
-    → AreAnswered service port batch.moment decisions batch.begun batch.taken batch.moves left e old new old_told new_told
-    → HasAnswered service port decisions entries batch e old new old_told new_told
-all_answered service port decisions entries batch left e old new old_told new_told none so =
+    → AreAnswered service port Tells batch.moment decisions batch.begun batch.taken batch.moves left e old new old_told new_told
+    → HasAnswered service port Tells decisions entries batch e old new old_told new_told
+all_answered service port Tells decisions entries batch left e old new old_told new_told none so =
     let last = subst (λ (l : List Entry). AreEntered service port batch.moment so.rest l so.batch batch.moves) none so.entered in
     record {
       sent = so.sent;
@@ -186,12 +186,12 @@ all_answered service port decisions entries batch left e old new old_told new_to
     }
 
 -- none is answered yet
-pub none_answered : (service : ServiceSeen) (port : Port) (decisions : Option (List Decision))
+pub none_answered : (service : ServiceSeen) (port : Port) (Tells : Type 0) (decisions : Option (List Decision))
     (entries : List Entry) (batch : Batch service port decisions entries) (e : Ends) (old : List PeerDatagram)
     (old_told : Option (List Told)) → e ≡ no_ends
-    → AreAnswered service port batch.moment decisions batch.begun batch.taken batch.moves entries e old old old_told old_told
-none_answered service port decisions entries batch e old old_told none =
-    subst (λ (n : Ends). AreAnswered service port batch.moment decisions batch.begun batch.taken batch.moves entries n old old old_told old_told) (sym none) (record {
+    → AreAnswered service port Tells batch.moment decisions batch.begun batch.taken batch.moves entries e old old old_told old_told
+none_answered service port Tells decisions entries batch e old old_told none =
+    subst (λ (n : Ends). AreAnswered service port Tells batch.moment decisions batch.begun batch.taken batch.moves entries n old old old_told old_told) (sym none) (record {
       told = [];
       done = [];
       rest = batch.taken;
@@ -199,24 +199,24 @@ none_answered service port decisions entries batch e old old_told none =
       sent = [];
       all = refl;
       entered = batch.entered;
-      more_sent = sym (append-nil old);
+      more_sent = λ tells. sym (append-nil old);
       more_told = none_told old_told;
       turned = NoneYet;
       numbers = no_numbers;
     })
 
 -- one more is answered
-pub one_answered : (service : ServiceSeen) (port : Port) (moment : ℕ) (decisions : Option (List Decision))
+pub one_answered : (service : ServiceSeen) (port : Port) (Tells_then Tells : Type 0) (moment : ℕ) (decisions : Option (List Decision))
     (begun : List BooksSeen) (taken : List PeerDatagram) (moves : List Move) (entry : Entry) (left others : List Entry)
     (end : End) (e after : Ends) (old mid new : List PeerDatagram) (old_told mid_told new_told : Option (List Told))
     → left ≡ entry ∷ others → HasDecided begun moves decisions → IsEndOf decisions entry end
-    → after ≡ counted_end end e → new ≡ mid ++ sent_by service decisions entry
+    → after ≡ counted_end end e → (Tells → Tells_then) → (Tells → new ≡ mid ++ sent_by service decisions entry)
     → HasTold (told_by service.config entry end ∷ []) mid_told new_told
-    → AreAnswered service port moment decisions begun taken moves left e old mid old_told mid_told
-    → AreAnswered service port moment decisions begun taken moves others after old new old_told new_told
-one_answered service port moment decisions begun taken moves entry left others end e after old mid new old_told mid_told new_told is decides ended counts sends tells so =
+    → AreAnswered service port Tells_then moment decisions begun taken moves left e old mid old_told mid_told
+    → AreAnswered service port Tells moment decisions begun taken moves others after old new old_told new_told
+one_answered service port Tells_then Tells moment decisions begun taken moves entry left others end e after old mid new old_told mid_told new_told is decides ended counts before sends tells so =
     let f = subst (λ (l : List Entry). AreEntered service port moment so.rest l so.batch moves) is so.entered in
-    subst (λ (n : Ends). AreAnswered service port moment decisions begun taken moves others n old new old_told new_told) (sym counts) (record {
+    subst (λ (n : Ends). AreAnswered service port Tells moment decisions begun taken moves others n old new old_told new_told) (sym counts) (record {
       told = so.told ++ told_by service.config entry end ∷ [];
       done = so.done ++ f.0 ∷ [];
       rest = f.1;
@@ -224,7 +224,7 @@ one_answered service port moment decisions begun taken moves entry left others e
       sent = so.sent ++ sent_by service decisions entry;
       all = so.all ∙ ap (λ (t : List PeerDatagram). so.done ++ t) f.3 ∙ sym (append_assoc so.done (f.0 ∷ []) f.1);
       entered = f.5;
-      more_sent = sends ∙ ap (λ (s : List PeerDatagram). s ++ sent_by service decisions entry) so.more_sent
+      more_sent = λ t. sends t ∙ ap (λ (s : List PeerDatagram). s ++ sent_by service decisions entry) (so.more_sent (before t))
           ∙ append_assoc old so.sent (sent_by service decisions entry);
       more_told = more_told so.told (told_by service.config entry end ∷ []) old_told mid_told new_told so.more_told tells;
       turned = turned_more service port moment decisions begun so.told so.done f.1 so.batch f.2 moves so.sent f.0 entry others end decides ended f.4 f.5 so.turned;

@@ -23,13 +23,14 @@ pub record Batch (service : ServiceSeen) (port : Port) (decisions : Option (List
   pub entered : AreEntered service port moment taken entries [] moves
   pub decided : HasDecided begun moves decisions
 
--- they ended so, as a watcher has learned, and these were the sends
-pub record HasAnswered (service : ServiceSeen) (port : Port) (decisions : Option (List Decision))
-    (entries : List Entry) (batch : Batch service port decisions entries) (ends : Ends)
+-- they ended so, as a watcher has learned, and these were the sends, if the port reports them
+pub record HasAnswered (service : ServiceSeen) (port : Port) (Tells : Type 0)
+    (decisions : Option (List Decision)) (entries : List Entry)
+    (batch : Batch service port decisions entries) (ends : Ends)
     (old new : List PeerDatagram) (old_told new_told : Option (List Told)) : Type 0 where
   pub sent : List PeerDatagram
   pub told : List Told
-  pub more_sent : new ≡ old ++ sent
+  pub more_sent : Tells → new ≡ old ++ sent
   pub more_told : HasTold told old_told new_told
   pub turned : Turned service port batch.moment (is_recorded decisions) batch.begun
       told batch.taken batch.moves sent

@@ -59,6 +59,13 @@ pub record IsRecordedAs (outcome : Outcome) (batch : List Move) (old new : List 
   pub decided : HasDecided old batch (decisions_in outcome)
   pub books : new ≡ replay old (made (is_recorded (decisions_in outcome)) batch)
 
+-- whether the batch was refused since nothing more can be recorded
+abbrev pub is_last : Outcome → Bool
+is_last outcomes.Nothing = false
+is_last (outcomes.Recorded recorded) = false
+is_last outcomes.Failed = false
+is_last outcomes.Ended = true
+
 -- the ending of a turn with this outcome, whose taking ended so
 abbrev pub ending_by : Outcome → Ending → Ending
 ending_by outcome endings.Down = endings.Down
@@ -73,3 +80,9 @@ abbrev pub is_down : Ending → Bool
 is_down endings.Down = true
 is_down endings.Open = false
 is_down endings.Ended = false
+
+-- whether a turn ended because nothing more can be recorded
+abbrev pub is_ended : Ending → Bool
+is_ended endings.Down = false
+is_ended endings.Open = false
+is_ended endings.Ended = true

@@ -11,7 +11,7 @@ abbrev pub subject_of : Meaning → Subject
 subject_of Bare = Nobody
 subject_of Reject = Nobody
 subject_of (Own account act) = Account
-subject_of (Restart nas) = AccessServer
+subject_of (Restart nas delay) = AccessServer
 subject_of (Stray note) = Nobody
 
 -- the subject of a datagram, if it has a meaning

@@ -132,19 +132,20 @@ pub record HasTurned (service : ServiceSeen) (port : Port) (ends : Ends) (old ne
   pub numbers : AreNumbersOf told
       ends.dropped ends.refused ends.unrecorded ends.answered ends.unsent
 
--- A turn by what it gives as recorded, whatever its recorder is: the clock is read once, and what
--- was taken since ended so, as the watcher has learned. What was recorded is the batch with the
+-- A turn by what it gives as recorded, whatever its port and its recorder are: the clock is read
+-- once, and datagrams ended so, as the watcher has learned. What was recorded is the batch with the
 -- moves of these datagrams, in order. A datagram with a move is answered only if it is recorded, by
--- the books before the batch and the moves before its own.
-pub record IsDecidedBy (service : ServiceSeen) (port : Port) (ends : Ends)
+-- the books before the batch and the moves before its own. They are what was taken since, and what
+-- was sent for them, if the port reports that.
+pub record IsDecidedBy (service : ServiceSeen) (port : Port) (Tells : Type 0) (ends : Ends)
     (recorded : Option RecordedSeen) (old new : State) : Type 0 where
   pub taken : List PeerDatagram
   pub batch : List Move
   pub sent : List PeerDatagram
   pub told : List Told
   pub moment : ℕ
-  pub more_taken : new.taken ≡ old.taken ++ taken
-  pub more_sent : new.sent ≡ old.sent ++ sent
+  pub more_taken : Tells → new.taken ≡ old.taken ++ taken
+  pub more_sent : Tells → new.sent ≡ old.sent ++ sent
   pub more_shown : HasShown (moment ∷ []) old.shown new.shown
   pub more_told : HasTold told old.told new.told
   pub whole : IsOf batch recorded

@@ -60,10 +60,9 @@ impl Turner<'_> {
             P.room datagrams.new ≡ P.room datagrams.old }
         ensures down { P.tells datagrams.new ≡ true →
             P.is_down datagrams.new ≡ P.is_down datagrams.old }
-        ensures answered { P.tells datagrams.new ≡ true →
-            (batch : Batch (service_of self.now.present) self.now.port
+        ensures answered { (batch : Batch (service_of self.now.present) self.now.port
             (decisions_in outcome.now) queue.old.items) →
-            HasAnswered (service_of self.now.present) self.now.port
+            HasAnswered (service_of self.now.present) self.now.port (P.tells datagrams.new ≡ true)
             (decisions_in outcome.now) queue.old.items batch result
             (P.sent datagrams.old) (P.sent datagrams.new)
             (W.told watch.old) (W.told watch.new) }

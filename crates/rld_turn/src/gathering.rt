@@ -1,10 +1,10 @@
-ghost use Rattle.std.specs.Prelude.{◌≡◌, ◌+◌, ◌*◌, ◌≤◌, ◌<◌, [], ◌∷◌, ◌++◌, min, length, take, true};
+ghost use Rattle.std.specs.Prelude.{◌≡◌, ◌+◌, ◌*◌, ◌≤◌, ◌<◌, [], ◌∷◌, ◌++◌, min, length, take, true, false};
 ghost use Rattle.std.specs.VecDeque.{deque_capacity};
 ghost use Rattle.rsl_event.specs.Prepared.{HasAccount, HasOwnAct};
 ghost use Rattle.rld_turn.specs.Entered.{HasAdded, HasGathered, HasPushed, IsEntered};
 ghost use Rattle.rld_turn.specs.Moves.{in_log};
 ghost use Rattle.rld_turn.specs.Present.{peer_datagram, service_of};
-ghost use Rattle.rld_turn.specs.Recorded.{is_down};
+ghost use Rattle.rld_turn.specs.Recorded.{is_down, is_ended};
 
 use crate::ends::Ending;
 use crate::peer_port::PeerPort;
@@ -43,6 +43,7 @@ impl Turner<'_> {
         ensures room { P.tells datagrams.new ≡ true →
             min (P.room datagrams.old) (length buffer.old) ≤ P.room datagrams.new }
         ensures down { P.tells datagrams.new ≡ true → P.is_down datagrams.new ≡ is_down result }
+        ensures goes_on { is_ended result ≡ false }
     {
         for _ in 0..MAX_BATCH {
             match datagrams.receive(buffer) {

@@ -1,5 +1,6 @@
-ghost use Rattle.std.specs.Prelude.{◌≡◌, ◌++◌, List, true};
-ghost use Rattle.rld_turn.specs.Recorded.{HasCount, IsOf, IsRecordedAs, decisions_in, ending_by, is_recorded, made, recorded_in};
+ghost use Rattle.std.specs.Prelude.{◌≡◌, ◌++◌, List, IfSome, true, false};
+ghost use Rattle.rld_turn.specs.Recorded.{HasCount, IsOf, IsRecordedAs, decisions_in, ending_by, is_last, is_recorded, made, recorded_in};
+ghost use Rattle.rld_store.specs.Recorded.{IsOfEra};
 ghost use Rattle.rsl_accounts.specs.Configuration.{Configuration};
 ghost use Rattle.rsl_shard.specs.Restep.{BooksSeen};
 ghost use Rattle.rsl_shard.specs.declared.moved.Move.{Move as OneMove};
@@ -44,10 +45,17 @@ impl Outcome {
     }
 }
 
-/// Records a batch, if it has a move.
-pub(crate) fn record<R: Recorder>(alloc: Global, recorder: &mut R, batch: Vec<Move>) -> Outcome
+/// Records a batch of this era, if it has a move.
+pub(crate) fn record<R: Recorder>(
+    alloc: Global,
+    recorder: &mut R,
+    era: Option<u64>,
+    batch: Vec<Move>,
+) -> Outcome
     ensures count { HasCount (decisions_in result) batch.items }
     ensures batch { IsOf batch.items (recorded_in result) }
+    ensures era { IfSome (recorded_in result) (λ recorded. IsOfEra era recorded.era) }
+    ensures over { R.is_over recorder.old ≡ false → R.is_over recorder.new ≡ is_last result }
     ensures telling { R.tells recorder.new ≡ true → R.tells recorder.old ≡ true }
     ensures recorded { R.tells recorder.new ≡ true → IsRecordedAs result batch.items
         (R.books recorder.old) (R.books recorder.new) }
@@ -59,7 +67,7 @@ pub(crate) fn record<R: Recorder>(alloc: Global, recorder: &mut R, batch: Vec<Mo
     if batch.is_empty() {
         return Outcome::Nothing;
     }
-    match recorder.record(alloc, batch) {
+    match recorder.record(alloc, era, batch) {
         Ok(recorded) => Outcome::Recorded(recorded),
         Err(RecordFault::Failed) => Outcome::Failed,
         Err(RecordFault::Ended) => Outcome::Ended,

@@ -1,9 +1,9 @@
-ghost use Rattle.std.specs.Prelude.{◌≡◌, ◌≤◌, [], min, IfOk, length, true};
+ghost use Rattle.std.specs.Prelude.{◌≡◌, ◌≤◌, [], min, IfOk, IfSome, length, true, false};
 ghost use Rattle.std.specs.Prelude.{vec_len};
 ghost use Rattle.std.specs.VecDeque.{deque_capacity};
 ghost use Rattle.rld_turn.specs.Counted.{ends_of};
 ghost use Rattle.rld_turn.specs.Present.{service_of};
-ghost use Rattle.rld_turn.specs.Recorded.{is_down};
+ghost use Rattle.rld_turn.specs.Recorded.{is_down, is_ended};
 ghost use Rattle.rld_turn.specs.Turned.{HasTurned, IsDecidedBy, state_of};
 
 use crate::ends::Turn;
@@ -63,8 +63,9 @@ impl Receiver {
     /// The moves of those that are neither dropped nor refused memory are recorded as one batch, at
     /// the moment that the clock shows when the turn begins. Each datagram is then answered, in the
     /// order in which they were taken; one with a move only if the batch was recorded. If an answer
-    /// cannot be sent, what was recorded stands. `watch` notes first that the turn begins, and
-    /// then, in that order, how each datagram ended.
+    /// cannot be sent, what was recorded stands. A recorder of another era than that of `present`
+    /// records nothing. `watch` notes first that the turn begins, and then, in that order, how each
+    /// datagram ended.
     ///
     /// The turn's ending is `Down` if a call that takes a datagram failed, and `Ended` if nothing
     /// more can be recorded; what was taken before is answered all the same.
@@ -86,15 +87,23 @@ impl Receiver {
             (state_of (P.taken datagrams.new) (P.sent datagrams.new) (C.shown clock.new) (W.told watch.new) (R.books recorder.new))
             (R.stands recorder.old) (R.stands recorder.new) }
 
-        // Whatever the recorder is: a datagram that is answered with a decision has its move in the
-        // batch that the turn gives as recorded, and the decision is the one on that move.
-        ensures decided { P.tells datagrams.new ≡ true →
-            IsDecidedBy (service_of present.now) self.old.port result.ends result.recorded
+        // Whatever the port and the recorder are: a datagram that is answered with a decision has
+        // its move in the batch that the turn gives as recorded, and the decision is the one on
+        // that move. Over a port that tells, these are its datagrams and answers.
+        ensures decided { IsDecidedBy (service_of present.now) self.old.port (P.tells datagrams.new ≡ true)
+            result.ends result.recorded
             (state_of (P.taken datagrams.old) (P.sent datagrams.old) (C.shown clock.old) (W.told watch.old) (R.books recorder.old))
             (state_of (P.taken datagrams.new) (P.sent datagrams.new) (C.shown clock.new) (W.told watch.new) (R.books recorder.new)) }
+
+        // What was recorded is of the era of these accounts, whatever the recorder is.
+        ensures era { IfSome result.recorded (λ recorded. recorded.era ≡ present.now.era) }
         ensures room { P.tells datagrams.new ≡ true →
             min (P.room datagrams.old) 4096 ≤ P.room datagrams.new }
         ensures down { P.tells datagrams.new ≡ true → P.is_down datagrams.new ≡ is_down result.ending }
+
+        // Unless the port failed, it ends `Ended` exactly where the recorder has said so.
+        ensures ended { R.is_over recorder.old ≡ false → is_down result.ending ≡ false →
+            R.is_over recorder.new ≡ is_ended result.ending }
     {
         let Receiver {
             alloc,
@@ -112,7 +121,7 @@ impl Receiver {
         let moment = clock.now();
         let mut batch = Vec::new(*alloc);
         let taking = turner.gather(moment, datagrams, buffer, rooms, &mut batch, queue);
-        let outcome = record(*alloc, recorder, batch);
+        let outcome = record(*alloc, recorder, Some(present.era), batch);
         let ends = turner.answer_each(datagrams, watch, &outcome, queue, rooms);
         Turn {
             ends,

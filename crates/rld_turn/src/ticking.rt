@@ -1,4 +1,5 @@
-ghost use Rattle.std.specs.Prelude.{◌≡◌, [], ◌∷◌, true, IfSome};
+ghost use Rattle.std.specs.Prelude.{◌≡◌, [], ◌∷◌, true, false, IfSome};
+ghost use Rattle.rld_store.specs.Recorded.{is_ended};
 ghost use Rattle.rld_turn.specs.Ticked.{HasTicked};
 
 use rld_store::{RecordFault, Recorder};
@@ -7,6 +8,7 @@ use rsl_shard::Move;
 use std::alloc::Global;
 
 /// Records a tick of the clock's present moment, as a batch of its own, which ends what has lapsed.
+/// It names no account, and is recorded in whatever era the recorder is.
 ///
 /// `Failed` comes if it was not recorded or memory is refused, and `Ended` if nothing more can be
 /// recorded. Then the books are as they were.
@@ -16,13 +18,14 @@ pub fn tick<R: Recorder, C: Clock>(
     clock: &mut C,
 ) -> Result<(), RecordFault>
     ensures telling { R.tells recorder.new ≡ true → R.tells recorder.old ≡ true }
+    ensures over { R.is_over recorder.old ≡ false → R.is_over recorder.new ≡ is_ended result }
     ensures ticked { R.tells recorder.new ≡ true → HasTicked result
         (C.shown clock.old) (C.shown clock.new) (R.books recorder.old) (R.books recorder.new)
         (R.stands recorder.old) (R.stands recorder.new) }
 {
     let moment = clock.now();
     match batch_of(alloc, Move::Tick { moment }) {
-        Some(batch) => match recorder.record(alloc, batch) {
+        Some(batch) => match recorder.record(alloc, None, batch) {
             Ok(recorded) => {
                 drop(recorded);
                 Ok(())

@@ -59,3 +59,10 @@ added_other clients old other new differ joined all others before had =
     (joined all others before had)
 
 pub ruleset adding = (both_counted, in_all_counted, added_same, added_other)
+
+-- what is added where nothing was counted
+pub added_to_none : (clients : ℕ) (old other new : CellSeen)
+    → ((all others : List Ended) → HasCounted all old → HasCounted others other
+    → HasCounted (all ++ for_clients clients other others) new)
+    → HasCounted [] old → (had : List Ended) → HasCounted had other → HasCounted (for_clients clients other had) new
+added_to_none clients old other new added none had counted = added [] had none counted

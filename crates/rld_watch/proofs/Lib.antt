@@ -1,4 +1,5 @@
 mod Counting
 mod Meaning
+mod Places
 mod Readings
 mod Truths

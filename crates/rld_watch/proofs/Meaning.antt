@@ -34,7 +34,7 @@ use Rattle.rld_watch.specs.Ending.{acct_drop, auth_drop}
 abbrev pub IsAccess : Meaning → Type 0
 IsAccess Bare = ⊤
 IsAccess Reject = ⊤
-IsAccess (Own account (Ask key nas)) = ⊤
+IsAccess (Own account (Ask key nas station)) = ⊤
 IsAccess _ = ⊥
 
 abbrev pub OfAuth : Result Meaning Dropped → Type 0
@@ -110,7 +110,7 @@ acct_if true one other first second = first
 acct_if false one other first second = second
 
 acct_act : (config : Configuration) (boot client : ℕ) (status : Status) (attributes : List Attribute) (account : ℕ)
-    → kind_of_act account (session_act config boot client status attributes) ≡ kinds.Account
+    → kind_of_act account (session_act config boot client account status attributes) ≡ kinds.Account
 acct_act config boot client statuses.Start attributes account = refl
 acct_act config boot client statuses.Stop attributes account = refl
 acct_act config boot client statuses.InterimUpdate attributes account = refl

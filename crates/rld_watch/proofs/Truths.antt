@@ -15,7 +15,6 @@ use Rattle.rsl_event.specs.declared.meaning.Dropped.{Dropped}
 use Rattle.rsl_event.specs.declared.meaning.Dropped.TheVariants as drops
 use Rattle.rsl_event.specs.declared.meaning.Meaning.{Meaning}
 use Rattle.rsl_event.specs.declared.meaning.Meaning.TheVariants.{Bare, Reject, Own, Restart, Stray}
-use Rattle.rsl_event.specs.declared.meaning.Port.{Port}
 use Rattle.rsl_event.specs.declared.meaning.Port.TheVariants as ports
 use Rattle.rsl_event.specs.declared.meaning_kind.MeaningKind.TheVariants as kinds
 use Rattle.rsl_event.specs.declared.nas.Nas.{Nas}
@@ -115,12 +114,12 @@ rejected service one (Some causes.DisabledAccount) means is holds = record { mea
 rejected service one (Some causes.NoPassword) means is holds = record { means = means; is_cause = is }
 
 -- an ask is accepted, or finds no place
-asked : (service : ServiceSeen) (one : PeerDatagram) (cause : Option RejectCause) (account : ℕ) (key : Key) (nas : Nas) (decision : Decision)
-    → Means service ports.Auth one (Own account (acts.Ask key nas))
+asked : (service : ServiceSeen) (one : PeerDatagram) (cause : Option RejectCause) (account : ℕ) (key : Key) (nas : Nas) (station : Option (List ℕ)) (decision : Decision)
+    → Means service ports.Auth one (Own account (acts.Ask key nas station))
     → IsSomeAnd (option_map Auth (auth_answer cause (said_of decision))) (Says service gates.Auth one)
-asked service one cause account key nas (decisions.Accept number) means = record { account = account; key = key; nas = nas; means = means }
-asked service one cause account key nas decisions.LimitReject means = record { account = account; key = key; nas = nas; means = means }
-asked service one cause account key nas decisions.Done means = record { account = account; key = key; nas = nas; means = means }
+asked service one cause account key nas station (decisions.Accept number) means = record { account = account; key = key; nas = nas; station = station; means = means }
+asked service one cause account key nas station decisions.LimitReject means = record { account = account; key = key; nas = nas; station = station; means = means }
+asked service one cause account key nas station decisions.Done means = record { account = account; key = key; nas = nas; station = station; means = means }
 
 auth_said : (service : ServiceSeen) (one : PeerDatagram) (meant : Meaning) (decision : Decision) (cause : Option RejectCause)
     → Means service ports.Auth one meant → IsAccess meant
@@ -129,12 +128,12 @@ auth_said : (service : ServiceSeen) (one : PeerDatagram) (meant : Meaning) (deci
 auth_said service one Bare decision cause means can is holds =
     subst (λ (c : Option RejectCause). IsSomeAnd (option_map Auth (auth_answer c words.Reject)) (Says service gates.Auth one)) (sym holds) means
 auth_said service one Reject decision cause means can is holds = rejected service one cause means is holds
-auth_said service one (Own account (acts.Ask key nas)) decision cause means can is holds = asked service one cause account key nas decision means
-auth_said service one (Own account (acts.Alive nas session bundle class)) decision cause means can is holds = absurd can
+auth_said service one (Own account (acts.Ask key nas station)) decision cause means can is holds = asked service one cause account key nas station decision means
+auth_said service one (Own account (acts.Alive nas session bundle class station)) decision cause means can is holds = absurd can
 auth_said service one (Own account (acts.Stop nas session)) decision cause means can is holds = absurd can
-auth_said service one (Own account (acts.Sweep nas)) decision cause means can is holds = absurd can
+auth_said service one (Own account (acts.Sweep nas delay)) decision cause means can is holds = absurd can
 auth_said service one (Own account acts.Tick) decision cause means can is holds = absurd can
-auth_said service one (Restart nas) decision cause means can is holds = absurd can
+auth_said service one (Restart nas delay) decision cause means can is holds = absurd can
 auth_said service one (Stray note) decision cause means can is holds = absurd can
 
 -- a request of a session that concerns nobody is stray
@@ -144,7 +143,7 @@ stray : (service : ServiceSeen) (one : PeerDatagram) (meant : Meaning) (status :
 stray service one Bare status means kind is nobody = absurd (cc kind)
 stray service one Reject status means kind is nobody = absurd (cc kind)
 stray service one (Own account act) status means kind is nobody = absurd (cc (sym (ap (λ r. is_nobody (subject_in r)) means) ∙ nobody))
-stray service one (Restart nas) status means kind is nobody = absurd (cc (sym (ap (λ r. is_nobody (subject_in r)) means) ∙ nobody))
+stray service one (Restart nas delay) status means kind is nobody = absurd (cc (sym (ap (λ r. is_nobody (subject_in r)) means) ∙ nobody))
 stray service one (Stray note) status means kind is nobody = record { note = note; means = means; is_status = is }
 
 -- by whether it concerns nobody
@@ -203,11 +202,11 @@ ask_rejected service one (Some causes.DisabledAccount) means is = record { means
 ask_rejected service one (Some causes.NoPassword) means is = tt
 
 -- and one that the books decide on
-ask_decided : (service : ServiceSeen) (one : PeerDatagram) (cause : Option RejectCause) (account : ℕ) (key : Key) (nas : Nas) (decision : Decision)
-    → Means service ports.Auth one (Own account (acts.Ask key nas)) → AskSays service one (ask_answer cause (said_of decision))
-ask_decided service one cause account key nas (decisions.Accept number) means = record { account = account; key = key; nas = nas; means = means }
-ask_decided service one cause account key nas decisions.LimitReject means = record { account = account; key = key; nas = nas; means = means }
-ask_decided service one cause account key nas decisions.Done means = record { account = account; key = key; nas = nas; means = means }
+ask_decided : (service : ServiceSeen) (one : PeerDatagram) (cause : Option RejectCause) (account : ℕ) (key : Key) (nas : Nas) (station : Option (List ℕ)) (decision : Decision)
+    → Means service ports.Auth one (Own account (acts.Ask key nas station)) → AskSays service one (ask_answer cause (said_of decision))
+ask_decided service one cause account key nas station (decisions.Accept number) means = record { account = account; key = key; nas = nas; station = station; means = means }
+ask_decided service one cause account key nas station decisions.LimitReject means = record { account = account; key = key; nas = nas; station = station; means = means }
+ask_decided service one cause account key nas station decisions.Done means = record { account = account; key = key; nas = nas; station = station; means = means }
 
 ask_said : (service : ServiceSeen) (one : PeerDatagram) (meant : Meaning) (decision : Decision) (cause : Option RejectCause)
     → Means service ports.Auth one meant → IsAccess meant
@@ -216,12 +215,12 @@ ask_said : (service : ServiceSeen) (one : PeerDatagram) (meant : Meaning) (decis
 ask_said service one Bare decision cause means can is holds =
     subst (λ (c : Option RejectCause). AskSays service one (ask_answer c words.Reject)) (sym holds) tt
 ask_said service one Reject decision cause means can is holds = ask_rejected service one cause means is
-ask_said service one (Own account (acts.Ask key nas)) decision cause means can is holds = ask_decided service one cause account key nas decision means
-ask_said service one (Own account (acts.Alive nas session bundle class)) decision cause means can is holds = absurd can
+ask_said service one (Own account (acts.Ask key nas station)) decision cause means can is holds = ask_decided service one cause account key nas station decision means
+ask_said service one (Own account (acts.Alive nas session bundle class station)) decision cause means can is holds = absurd can
 ask_said service one (Own account (acts.Stop nas session)) decision cause means can is holds = absurd can
-ask_said service one (Own account (acts.Sweep nas)) decision cause means can is holds = absurd can
+ask_said service one (Own account (acts.Sweep nas delay)) decision cause means can is holds = absurd can
 ask_said service one (Own account acts.Tick) decision cause means can is holds = absurd can
-ask_said service one (Restart nas) decision cause means can is holds = absurd can
+ask_said service one (Restart nas delay) decision cause means can is holds = absurd can
 ask_said service one (Stray note) decision cause means can is holds = absurd can
 
 one_answered : CausesAreOfRejects → (service : ServiceSeen) (gate : Gate) (one : PeerDatagram) (meant : Meaning) (decision : Decision) (end : TurnEnd)

@@ -59,7 +59,8 @@ pub record Asks (service : ServiceSeen) (one : PeerDatagram) : Type 0 where
   pub account : ℕ
   pub key : Key
   pub nas : Nas
-  pub means : Means service ports.Auth one (Own account (acts.Ask key nas))
+  pub station : Option (List ℕ)
+  pub means : Means service ports.Auth one (Own account (acts.Ask key nas station))
 
 -- a datagram is well formed, and rejected for this cause
 pub record IsRejectedFor (service : ServiceSeen) (one : PeerDatagram) (cause : RejectCause) : Type 0 where

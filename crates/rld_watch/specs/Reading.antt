@@ -2,7 +2,7 @@
 --
 -- A receiver counts under a lock, so no clause can name what it has counted. But a clause can name
 -- what was read: `had` says of each reading which datagrams its receiver had counted.
-use Rattle.std.specs.Prelude.{ℕ, Bool, true, false, List, [], map, if◌then◌else◌}
+use Rattle.std.specs.Prelude.{ℕ, Bool, true, false, List, [], ◌++◌, map, if◌then◌else◌}
 use Rattle.std.specs.List.{AllByRecursion, flat_map}
 use Rattle.rld_watch.specs.declared.gate.Gate.{Gate}
 use Rattle.rld_watch.specs.declared.gate.Gate.TheVariants.{Auth, Acct, Ask}
@@ -35,6 +35,10 @@ shown gate clients reading had =
 -- the datagrams of all receivers of a gate, receiver after receiver
 abbrev pub all_of : Gate → (clients : ℕ) → (had : Reading → List Ended) → List Reading → List Ended
 all_of gate clients had readings = flat_map (λ reading. shown gate clients reading (had reading)) readings
+
+-- the datagrams of the gates where logins come in: those of the authentication port, and then the asks
+abbrev pub logins_of : (clients : ℕ) → (had : Reading → List Ended) → List Reading → List Ended
+logins_of clients had readings = all_of Auth clients had readings ++ all_of Ask clients had readings
 
 -- the counts of the datagrams of all receivers
 abbrev pub all_ends : (had : Reading → List Ended) → List Reading → List ℕ

@@ -1,4 +1,5 @@
 ghost use Rattle.std.specs.Prelude.{◌≡◌, All, IfOk, length, map};
+ghost use Rattle.std.specs.List.{range_with_len};
 
 use crate::counted::Counted;
 use crate::gate::Gate;
@@ -10,6 +11,7 @@ use std::sync::{Mutex, Wait};
 /// The counts of a receiver, under a lock.
 #[derive(Drop)]
 pub(crate) struct Place {
+    pub(crate) number: usize,
     pub(crate) gate: Gate,
     counted: Mutex<Counted>,
 }
@@ -31,13 +33,19 @@ pub struct Board {
 impl Board {
     /// A place for each receiver, one for each of these gates, with counts of 0 for each of
     /// `clients` clients. It fails only if memory is refused.
+    #[tactic(auto, using(crate::proofs::Places::next_number))]
     pub fn new(alloc: Global, clients: u32, gates: &[Gate]) -> Result<Board, AllocError>
-        ensures { IfOk result (λ board. map (λ place. place.gate) board.places.items ≡ gates.now) }
+        ensures gates { IfOk result (λ board.
+            map (λ place. place.gate) board.places.items ≡ gates.now) }
+        ensures numbers { IfOk result (λ board. map (λ place. place.number) board.places.items
+            ≡ range_with_len 0 (length gates.now)) }
     {
         let mut places = Vec::new(alloc);
         for gate in gates {
+            let number = places.len();
             let counted = Counted::new(alloc, clients)?;
             places.push(Place {
+                number,
                 gate: *gate,
                 counted: Mutex::new(counted),
             })?;
@@ -75,8 +83,12 @@ impl Board {
         alloc: Global,
         clients: u32,
     ) -> Result<Vec<Reading>, AllocError>
-        ensures { IfOk result (λ readings. map (λ reading. reading.gate) readings.items
+        ensures numbers { IfOk result (λ readings. map (λ reading. reading.number) readings.items
+            ≡ map (λ place. place.number) self.now.places.items) }
+        ensures gates { IfOk result (λ readings. map (λ reading. reading.gate) readings.items
             ≡ map (λ place. place.gate) self.now.places.items) }
+        ensures clients { IfOk result (λ readings.
+            All (λ reading. length reading.counted.cell.clients ≡ clients) readings.items) }
     {
         let mut readings = Vec::new(alloc);
         for place in self.places.as_slice() {
@@ -95,14 +107,13 @@ impl Place {
     /// The counts of the receiver so far. If they are for another number of clients, the counts of
     /// each client are 0.
     fn read<R: Wait>(&self, rt: &R, alloc: Global, clients: u32) -> Result<Reading, AllocError>
-        ensures { IfOk result (λ reading. reading.gate ≡ self.now.gate) }
+        ensures number { IfOk result (λ reading. reading.number ≡ self.now.number) }
+        ensures gate { IfOk result (λ reading. reading.gate ≡ self.now.gate) }
+        ensures clients { IfOk result (λ reading. length reading.counted.cell.clients ≡ clients) }
     {
-        let mut counted = Counted::new(alloc, clients)?;
-        counted.add(&*self.counted.lock(rt));
-        Ok(Reading {
-            gate: self.gate,
-            counted,
-        })
+        let room = Counted::new(alloc, clients)?;
+        let reading = Reading::of(self.number, self.gate, room, &*self.counted.lock(rt));
+        Ok(reading)
     }
 }
 

@@ -1,8 +1,9 @@
 //! Readings of receivers' counts, and their sums.
 
-ghost use Rattle.std.specs.Prelude.{◌≡◌, ◌++◌, IfOk, List, length};
+ghost use Rattle.std.specs.Prelude.{◌≡◌, ◌++◌, [], IfOk, List, length};
 ghost use Rattle.rld_counts.specs.Cell.{HasCounted};
 ghost use Rattle.rld_counts.specs.declared.ended.Ended.{Ended as OneEnded};
+ghost use Rattle.rld_watch.specs.Counted.{for_clients};
 ghost use Rattle.rld_watch.specs.Reading.{HaveCounted, all_ends, all_of, is_same_gate, shown};
 ghost use Rattle.rld_watch.specs.declared.reading.Reading.{Reading as OneReading};
 
@@ -11,14 +12,34 @@ use crate::gate::Gate;
 use rld_counts::{Cell, Counts};
 use std::alloc::{AllocError, Global};
 
-/// The counts of a receiver at a look, and its gate.
+/// The counts of a receiver at a look, its number and its gate.
 #[derive(Drop)]
 pub struct Reading {
-    pub(crate) gate: Gate,
-    pub(crate) counted: Counted,
+    number: usize,
+    gate: Gate,
+    counted: Counted,
 }
 
 impl Reading {
+    /// A reading of the receiver with this number and gate, which has counted this. It is made in
+    /// `room`, where nothing is counted yet, so it needs no memory. If that is for another number of
+    /// clients, the counts of each client are 0.
+    pub(crate) fn of(number: usize, gate: Gate, mut room: Counted, counted: &Counted) -> Reading
+        requires { HasCounted [] room.cell }
+        ensures number { result.number ≡ number }
+        ensures gate { result.gate ≡ gate }
+        ensures counted { (had : List OneEnded) → HasCounted had counted.now.cell →
+            HasCounted (for_clients (length room.cell.clients) counted.now.cell had) result.counted.cell }
+        ensures clients { length result.counted.cell.clients ≡ length room.cell.clients }
+    {
+        room.add(counted);
+        Reading {
+            number,
+            gate,
+            counted: room,
+        }
+    }
+
     /// Adds its counts, if the receiver is of this gate.
     fn add_to(&self, gate: Gate, all: &mut Counted)
         ensures added { (before had : List OneEnded) →

@@ -1,4 +1,4 @@
-ghost use Rattle.std.specs.Prelude.{◌≡◌};
+ghost use Rattle.std.specs.Prelude.{◌≡◌, IfSome, Some as some, slice_get};
 ghost use Rattle.rld_turn.specs.Told.{is_answered, told_as};
 ghost use Rattle.rld_watch.specs.Counted.{count_of, time_if};
 ghost use Rattle.rld_watch.specs.Noted.{IsNotedAs};
@@ -45,7 +45,11 @@ impl<'a, R: Wait + Clock> Watcher<'a, R> {
         alloc: Global,
         context: WatchContext<'a>,
         receiver: usize,
-    ) -> Option<Watcher<'a, R>> {
+    ) -> Option<Watcher<'a, R>>
+        ensures place { IfSome result (λ watcher.
+            slice_get context.entry.board.now.places.items receiver ≡ some watcher.place.now) }
+        ensures receiver { IfSome result (λ watcher. watcher.receiver ≡ receiver) }
+    {
         let place = context.board.places.as_slice().get(receiver)?;
         Some(Watcher {
             rt,

@@ -1,6 +1,6 @@
-use Rattle.std.proofs.Common.{List, [], ◌++◌, ap, subst, sym, ◌∙◌}
+use Rattle.std.proofs.Common.{◌≡◌, true, List, [], ◌++◌, ap, subst, sym, ◌∙◌}
 use Rattle.std.specs.Prelude.{Bool, Option}
-use Rattle.rld_turn.proofs.Failing.{same_down}
+use Rattle.rld_turn.proofs.Failing.{same_down, same_ended}
 use Rattle.rld_turn.proofs.Entering.{can_end}
 use Rattle.rld_turn.specs.Present.{service_of}
 use Rattle.rld_turn.proofs.Deciding.{has_decided, same_recorded}
@@ -22,12 +22,17 @@ returns-clause-down g c = λ told.
     c.answer_each-ends.ensures.down told ∙ c.gather-taking.ensures.down (c.answer_each-ends.ensures.telling told)
     ∙ sym (ap is_down c.ending.ensures ∙ same_down c.record-outcome.result c.gather-taking.result)
 
+pub returns-clause-ended : goal.returns-clause-ended
+returns-clause-ended g c = λ going up.
+    c.record-outcome.ensures.over going
+    ∙ same_ended c.record-outcome.result c.gather-taking.result c.ending.result c.ending.ensures c.gather-taking.ensures.goes_on up
+
 pub returns-clause-turned : goal.returns-clause-turned
 returns-clause-turned g c = λ told recorder_told.
     let gathered = c.gather-taking.ensures.gathered in
     let recorded = c.record-outcome.ensures.recorded recorder_told in
     let mid = c.answer_each-ends.ensures.telling told in
-    let answered = c.answer_each-ends.ensures.answered told (record {
+    let answered = c.answer_each-ends.ensures.answered (record {
       moment = c.now-moment.result;
       begun = g.R.Recorder.books c.args.recorder.now;
       taken = gathered.taken;
@@ -43,7 +48,7 @@ returns-clause-turned g c = λ told recorder_told.
       moment = c.now-moment.result;
       recorded = is_recorded (decisions_in c.record-outcome.result);
       more_taken = c.answer_each-ends.ensures.taken told ∙ gathered.told mid;
-      more_sent = answered.more_sent ∙ ap (λ (t : List PeerDatagram). t ++ answered.sent) (c.gather-taking.ensures.sent mid);
+      more_sent = answered.more_sent told ∙ ap (λ (t : List PeerDatagram). t ++ answered.sent) (c.gather-taking.ensures.sent mid);
       more_shown = c.now-moment.ensures.shown;
       more_told = subst (λ (t : Option (List Told)). HasTold answered.told t (g.W.Watch.told c.answer_each-ends.new.watch)) c.begin.ensures.told answered.more_told;
       books = recorded.books;
@@ -53,14 +58,14 @@ returns-clause-turned g c = λ told recorder_told.
     }
 
 pub returns-clause-decided : goal.returns-clause-decided
-returns-clause-decided g c = λ told.
+returns-clause-decided g c =
     let service = service_of c.args.present.now in
     let outcome = c.record-outcome.result in
     let before = books_before (recorded_in outcome) in
     let gathered = c.gather-taking.ensures.gathered in
     let moves = c.gather-taking.new.batch.items in
-    let mid = c.answer_each-ends.ensures.telling told in
-    let answered = c.answer_each-ends.ensures.answered told (record {
+    let mid = c.answer_each-ends.ensures.telling in
+    let answered = c.answer_each-ends.ensures.answered (record {
       moment = c.now-moment.result;
       begun = before;
       taken = gathered.taken;
@@ -70,7 +75,7 @@ returns-clause-decided g c = λ told.
     }) in
     subst
     (λ (r : Option RecordedSeen).
-    IsDecidedBy service c.args.self.now.port c.answer_each-ends.result r
+    IsDecidedBy service c.args.self.now.port (g.P.PeerPort.tells c.answer_each-ends.new.datagrams ≡ true) c.answer_each-ends.result r
     (state_of (g.P.PeerPort.taken c.args.datagrams.now) (g.P.PeerPort.sent c.args.datagrams.now) (g.C.Clock.shown c.args.clock.now) (g.W.Watch.told c.args.watch.now) (g.R.Recorder.books c.args.recorder.now))
     (state_of (g.P.PeerPort.taken c.answer_each-ends.new.datagrams) (g.P.PeerPort.sent c.answer_each-ends.new.datagrams) (g.C.Clock.shown c.now-moment.new.self) (g.W.Watch.told c.answer_each-ends.new.watch) (g.R.Recorder.books c.record-outcome.new.recorder)))
     (sym c.into_recorded.ensures) (record {
@@ -79,8 +84,8 @@ returns-clause-decided g c = λ told.
       sent = answered.sent;
       told = answered.told;
       moment = c.now-moment.result;
-      more_taken = c.answer_each-ends.ensures.taken told ∙ gathered.told mid;
-      more_sent = answered.more_sent ∙ ap (λ (t : List PeerDatagram). t ++ answered.sent) (c.gather-taking.ensures.sent mid);
+      more_taken = λ told. c.answer_each-ends.ensures.taken told ∙ gathered.told (mid told);
+      more_sent = λ told. answered.more_sent told ∙ ap (λ (t : List PeerDatagram). t ++ answered.sent) (c.gather-taking.ensures.sent (mid told));
       more_shown = c.now-moment.ensures.shown;
       more_told = subst (λ (t : Option (List Told)). HasTold answered.told t (g.W.Watch.told c.answer_each-ends.new.watch)) c.begin.ensures.told answered.more_told;
       whole = c.record-outcome.ensures.batch;

@@ -1,4 +1,4 @@
-use Rattle.std.proofs.Common.{◌≡◌, ◌+◌, List, [], ◌∷◌, length, refl, ap, subst, ◌∙◌, arith}
+use Rattle.std.proofs.Common.{◌≡◌, ◌+◌, true, List, [], ◌∷◌, length, refl, ap, subst, ◌∙◌, arith}
 use Rattle.std.specs.List.{AllByRecursion}
 use Rattle.std.proofs.lemmas.List.{nil_from_length}
 use Rattle.rld_turn.proofs.Replying.{all_answered, none_answered, one_answered, one_end}
@@ -18,7 +18,7 @@ loop-entry-init g c = record {
   taken = λ told. refl;
   room = λ told. refl;
   down = λ told. refl;
-  answered = λ told batch. none_answered _ _ _ _ batch c.new-ends.result (g.P.PeerPort.sent c.args.datagrams.now) (g.W.Watch.told c.args.watch.now) c.new-ends.ensures;
+  answered = λ batch. none_answered _ _ (g.P.PeerPort.tells c.args.datagrams.now ≡ true) _ _ batch c.new-ends.result (g.P.PeerPort.sent c.args.datagrams.now) (g.W.Watch.told c.args.watch.now) c.new-ends.ensures;
 }
 
 pub loop-entry-preserved : goal.loop-entry-preserved
@@ -38,19 +38,19 @@ loop-entry-preserved g c =
       taken = λ told. c.end.ensures.taken told ∙ c.loop-entry.invariant.taken (c.end.ensures.telling told);
       room = λ told. c.end.ensures.room told ∙ c.loop-entry.invariant.room (c.end.ensures.telling told);
       down = λ told. c.end.ensures.down told ∙ c.loop-entry.invariant.down (c.end.ensures.telling told);
-      answered = λ told batch.
-          one_answered service c.args.self.now.port batch.moment decisions batch.begun batch.taken batch.moves
+      answered = λ batch.
+          one_answered service c.args.self.now.port (g.P.PeerPort.tells c.loop-entry.datagrams ≡ true) (g.P.PeerPort.tells c.end.new.datagrams ≡ true) batch.moment decisions batch.begun batch.taken batch.moves
           c.in-Some.entry c.loop-entry.queue.items c.pop_front.new.self.items c.end.result c.loop-entry.ends c.count.new.self
           (g.P.PeerPort.sent c.args.datagrams.now) (g.P.PeerPort.sent c.loop-entry.datagrams) (g.P.PeerPort.sent c.end.new.datagrams)
           (g.W.Watch.told c.args.watch.now) (g.W.Watch.told c.loop-entry.watch) (g.W.Watch.told c.end.new.watch)
-          first batch.decided c.end.ensures.end c.count.ensures (c.end.ensures.sent told) c.end.ensures.told
-          (c.loop-entry.invariant.answered (c.end.ensures.telling told) batch);
+          first batch.decided c.end.ensures.end c.count.ensures c.end.ensures.telling c.end.ensures.sent c.end.ensures.told
+          (c.loop-entry.invariant.answered batch);
     }
 
 pub returns-clause-answered : goal.returns-clause-answered
-returns-clause-answered g c = λ told batch.
+returns-clause-answered g c = λ batch.
     let none : c.loop-entry.queue.items ≡ [] = nil_from_length c.loop-entry.queue.items (omega (arith, c.in_default.ensures.cases.0)) in
-    all_answered _ _ _ _ batch c.loop-entry.queue.items c.loop-entry.ends
+    all_answered _ _ _ _ _ batch c.loop-entry.queue.items c.loop-entry.ends
     (g.P.PeerPort.sent c.args.datagrams.now) (g.P.PeerPort.sent c.loop-entry.datagrams)
     (g.W.Watch.told c.args.watch.now) (g.W.Watch.told c.loop-entry.watch)
-    none (c.loop-entry.invariant.answered told batch)
+    none (c.loop-entry.invariant.answered batch)

@@ -21,10 +21,9 @@ invariant-loop-entry g l = record {
       → g.P.PeerPort.room l.datagrams ≡ g.P.PeerPort.room l.fn.datagrams;
   down : g.P.PeerPort.tells l.datagrams ≡ true
       → g.P.PeerPort.is_down l.datagrams ≡ g.P.PeerPort.is_down l.fn.datagrams;
-  answered : g.P.PeerPort.tells l.datagrams ≡ true
-      → (batch : Batch (service_of l.self.present) l.self.port
+  answered : (batch : Batch (service_of l.self.present) l.self.port
       (decisions_in l.outcome) l.fn.queue.items)
-      → AreAnswered (service_of l.self.present) l.self.port batch.moment
+      → AreAnswered (service_of l.self.present) l.self.port (g.P.PeerPort.tells l.datagrams ≡ true) batch.moment
       (decisions_in l.outcome) batch.begun batch.taken batch.moves l.queue.items l.ends
       (g.P.PeerPort.sent l.fn.datagrams) (g.P.PeerPort.sent l.datagrams)
       (g.W.Watch.told l.fn.watch) (g.W.Watch.told l.watch);

@@ -1,6 +1,12 @@
-use Rattle.std.proofs.Common.{◌≡◌, map, take}
+use Rattle.std.proofs.Common.{◌≡◌, All, length, map, take}
+use Rattle.rld_watch.specs.declared.reading.Reading.{Reading}
 use Rattle.rld_watch.proofs.board.Board.read.Given as goal
 
 abbrev pub invariant-loop-place : goal.invariant-loop-place
-invariant-loop-place g l =
-    map (λ reading. reading.gate) l.readings.items ≡ map (λ place. place.gate) (take l.place-index l.self.places.items)
+invariant-loop-place g l = record {
+  numbers :
+      map (λ reading. reading.number) l.readings.items ≡ map (λ place. place.number) (take l.place-index l.self.places.items);
+  gates :
+      map (λ reading. reading.gate) l.readings.items ≡ map (λ place. place.gate) (take l.place-index l.self.places.items);
+  clients : All (λ (reading : Reading). length reading.counted.cell.clients ≡ l.clients) l.readings.items;
+}
