@@ -88,6 +88,7 @@ where
         store,
         boot,
         header,
+        key,
         ..
     } = started;
     let generations = FolderGenerations::new(
@@ -125,6 +126,7 @@ where
         &generations,
         &accounts,
         store,
+        key,
     )?)
 }
 

@@ -154,6 +154,8 @@ grace_secs = 900       # and then keeps its place for so long, unless a new logi
 closed_secs = 3600     # a stopped session stays closed for so long: a late Start is ignored
 keep_secs = 15         # a request that is sent again gets its answer again for so long; at most reserve_secs
 # interim_secs = 300   # an accept asks for an Interim-Update so often, 60 to 86,400; at most half of live_secs
+# station = true       # a login ends the session that its device (Calling-Station-Id) still holds; also in [[account]]
+# delay_time = true    # a restart that is told late ends only what began before it, by its Acct-Delay-Time
 
 # An access server: up to 256 of these tables. This one is this machine.
 [[client]]

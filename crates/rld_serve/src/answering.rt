@@ -1,21 +1,25 @@
 //! Answers to operators. No lock is held while an answer is made of a look, or written.
 
-ghost use Rattle.std.specs.Prelude.{◌<◌, IfOk, IfSome, length};
+ghost use Rattle.std.specs.Prelude.{◌≡◌, ◌<◌, IfOk, IfSome, Some, length};
 ghost use Rattle.std.specs.Arc.{arc_value};
+ghost use Rattle.rld_control.specs.Reply.{reply_octets};
+ghost use Rattle.rld_state.specs.Freeing.{TellsFreed, WasFreed, WereFreed, octets_of_freed};
 
 use crate::accounts::Accounts;
 use crate::ask_fault::AskFault;
 use crate::server::Server;
-use rld_control::{Command, Form, Listing, NamedServer, NamedSession, Reply, Selection};
+use crate::status::status_of;
+use rld_control::{
+    AccountLinks, Command, Form, Listing, NamedServer, NamedSession, Reply, Selection,
+};
 use rld_edges::Operator;
 use rld_lists::{Holder, Shown, accounts_text, links_text, page_text};
 use rld_look::Health;
 use rld_start::Generations;
 use rld_state::{Freed, LinksPage};
-use rld_text::{ready_text, status_json, status_text};
+use rld_text::ready_text;
 use rsl_accounts::Config;
 use rsl_port::{Clock, SystemClock};
-use rsl_session::SavedLink;
 use rsl_wire::Octets;
 use std::io::ErrorKind;
 use std::os::unix::net::UnixStream;
@@ -36,8 +40,7 @@ enum Answer {
 #[derive(Drop)]
 struct Held {
     config: Arc<Config>,
-    account: u32,
-    links: Vec<SavedLink>,
+    held: AccountLinks,
 }
 
 /// A page of what all accounts hold.
@@ -117,7 +120,9 @@ where
     }
 
     /// The octets of an answer.
-    pub(crate) fn told(&self, reply: Reply<'_>) -> Result<Vec<u8>, AskFault> {
+    pub(crate) fn told(&self, reply: Reply<'_>) -> Result<Vec<u8>, AskFault>
+        ensures { IfOk result (λ octets. octets.items ≡ reply_octets reply.entry) }
+    {
         let mut octets = Vec::new(self.alloc);
         reply.write(&mut octets)?;
         Ok(octets)
@@ -126,10 +131,7 @@ where
     /// The answer to `status`.
     fn status(&self, form: Form) -> Result<Vec<u8>, AskFault> {
         let look = self.look()?;
-        match form {
-            Form::Lines => Ok(status_text(self.alloc, &look)?),
-            Form::Json => Ok(status_json(self.alloc, &look)?),
-        }
+        Ok(status_of(self.alloc, form, &look)?)
     }
 
     /// The answer to `ready`. No lock is taken for it.
@@ -153,10 +155,10 @@ where
 
     /// The answer to `sessions`: the links of the account with this name.
     fn sessions(&self, form: Form, name: &[u8]) -> Result<Vec<u8>, AskFault> {
-        let Some(held) = self.held_by(name)? else {
+        let Some(Held { config, held }) = self.held_by(name)? else {
             return Err(AskFault::UnknownAccount);
         };
-        let config = &*held.config;
+        let config = &*config;
         let entry = config.entry(held.account);
         let holder = Holder {
             config,
@@ -170,19 +172,12 @@ where
     /// What the account with this name holds, if there is one.
     fn held_by(&self, name: &[u8]) -> Result<Option<Held>, AskFault>
         ensures { IfOk result (λ found. IfSome found (λ held.
-            held.account < length (arc_value held.config).accounts)) }
+            held.held.account < length (arc_value held.config).accounts)) }
     {
         let state = self.state.lock(self.rt);
         let config = state.config()?;
-        let Some(account) = config.account(name) else {
-            return Ok(None);
-        };
-        match state.recorder().links(self.alloc, account)? {
-            Some(links) => Ok(Some(Held {
-                config,
-                account,
-                links,
-            })),
+        match state.held_by(self.alloc, name)? {
+            Some(held) => Ok(Some(Held { config, held })),
             None => Ok(None),
         }
     }
@@ -218,33 +213,46 @@ where
 
     /// Frees the place of a session by the Stop that its access server would have sent. If no link
     /// is bound to the session, nothing is recorded.
-    fn free(&self, named: &NamedSession) -> Result<Vec<u8>, AskFault> {
-        match self.freed(named)? {
-            Freed::Done(_recorded) => self.told(Reply::Done(b"freed\n")),
-            Freed::NotHeld => self.told(Reply::Done(b"no such session\n")),
-            Freed::Unrecorded => Err(AskFault::Unrecorded),
-        }
+    fn free(&self, named: &NamedSession) -> Result<Vec<u8>, AskFault>
+        ensures { IfOk result (λ octets. TellsFreed (WasFreed named.now) octets.items) }
+    {
+        let freed = self.freed(named)?;
+        self.told_freed(&freed)
     }
 
     /// Frees the places of all sessions of an access server by the Accounting-Off that it would have
     /// sent.
-    fn free_server(&self, named: &NamedServer) -> Result<Vec<u8>, AskFault> {
-        match self.server_freed(named)? {
-            Freed::Done(_recorded) => self.told(Reply::Done(b"freed\n")),
-            Freed::NotHeld | Freed::Unrecorded => Err(AskFault::Unrecorded),
+    fn free_server(&self, named: &NamedServer) -> Result<Vec<u8>, AskFault>
+        ensures { IfOk result (λ octets. TellsFreed (WereFreed named.now) octets.items) }
+    {
+        let freed = self.server_freed(named)?;
+        self.told_freed(&freed)
+    }
+
+    /// The answer to what came of that. `Unrecorded` comes where it was not recorded.
+    fn told_freed(&self, freed: &Freed) -> Result<Vec<u8>, AskFault>
+        ensures { IfOk result (λ octets. Some octets.items ≡ octets_of_freed freed.now) }
+    {
+        match freed.reply() {
+            Some(reply) => self.told(reply),
+            None => Err(AskFault::Unrecorded),
         }
     }
 
     /// Frees the places of all sessions of an access server, and gives the outcome.
-    fn server_freed(&self, named: &NamedServer) -> Result<Freed, AskFault> {
+    fn server_freed(&self, named: &NamedServer) -> Result<Freed, AskFault>
+        ensures { IfOk result (WereFreed named.now) }
+    {
         let mut state = self.state.lock(self.rt);
-        Ok(state.free_server(self.alloc, self.plan.boot, named, self.moment())?)
+        Ok(state.free_server(self.alloc, named, self.moment())?)
     }
 
     /// Frees the place of a session, and gives the outcome. The lock is held from the look at the accounts and the
     /// links until its Stop is recorded.
-    pub(crate) fn freed(&self, named: &NamedSession) -> Result<Freed, AskFault> {
+    pub(crate) fn freed(&self, named: &NamedSession) -> Result<Freed, AskFault>
+        ensures { IfOk result (WasFreed named.now) }
+    {
         let mut state = self.state.lock(self.rt);
-        Ok(state.free(self.alloc, self.plan.boot, named, self.moment())?)
+        Ok(state.free(self.alloc, named, self.moment())?)
     }
 }

@@ -1,18 +1,22 @@
 //! Asks of whoever checks logins himself: each is the Access-Request that its client would have sent, and takes
 //! the way of every datagram, in a turn of a receiver.
 
+ghost use Rattle.std.specs.Prelude.{◌≡◌, false, OnOk};
+
 use crate::accounts::Accounts;
 use crate::ask_fault::AskFault;
 use crate::ask_port::AskPort;
 use crate::ask_watch::{AskWatch, Noted};
+use crate::following::fault_after;
 use crate::server::Server;
 use crate::shared_recorder::SharedRecorder;
 use rld_ask::{Answer, AskForm, Asked, Asks, FormFault, Outcome, Refused, reply_lines};
 use rld_control::Reply;
 use rld_edges::RunFault;
+use rld_log::{FileLog, PacedLog};
 use rld_start::Generations;
 use rld_state::Told;
-use rld_turn::{End, Ending, Receiver, Turn};
+use rld_turn::{End, Receiver, Turn};
 use rld_watch::{WatchContext, Watcher};
 use rsl_event::Port;
 use rsl_port::{Clock, SystemClock};
@@ -32,11 +36,12 @@ pub(crate) struct Seat {
 
 /// What takes asks, from turn to turn.
 #[derive(Drop)]
-struct Place<'a, R: Wait + time::Clock> {
+struct Place<'s, 'a, R: Wait + time::Clock> {
     client: [u8; 4],
     receiver: Receiver,
-    clock: SystemClock<'a, R>,
-    watch: AskWatch<'a, R>,
+    recorder: SharedRecorder<'s, PacedLog<'a, FileLog>, R>,
+    clock: SystemClock<'s, R>,
+    watch: AskWatch<'s, R>,
 }
 
 /// How many seconds lie between two lines on requests that were refused.
@@ -46,7 +51,7 @@ const TOLD_SECS: u64 = 60;
 #[derive(Drop)]
 struct Desk<'s, 'a, G, A, R: Wait + time::Clock> {
     server: &'s Server<'a, G, A, R>,
-    place: Place<'s, R>,
+    place: Place<'s, 'a, R>,
     refused: Refused,
     told: u64,
     fault: Option<RunFault>,
@@ -122,7 +127,7 @@ where
     R: Wait + time::Clock,
 {
     /// What takes asks, if the server's file says that they come in.
-    fn ask_place(&self) -> Result<Option<Place<'_, R>>, RunFault> {
+    fn ask_place(&self) -> Result<Option<Place<'_, 'a, R>>, RunFault> {
         let Some(seat) = self.seat else {
             return Ok(None);
         };
@@ -136,35 +141,37 @@ where
         Ok(Some(Place {
             client: seat.client,
             receiver: Receiver::new(self.alloc, Port::Auth)?,
+            recorder: SharedRecorder::new(self.rt, &self.state),
             clock: SystemClock::new(self.rt, self.plan.start),
             watch: AskWatch::new(self.alloc, watcher)?,
         }))
     }
 
     /// Takes a turn with these asks, and gives an answer to each; those at the end have none where memory is
-    /// refused. `Unsynced` comes where nothing more can be recorded.
+    /// refused. `Unsynced` comes where nothing more can be recorded: no turn follows one whose recorder has said
+    /// so.
     fn take_turn_of(
         &self,
-        place: &mut Place<'_, R>,
+        place: &mut Place<'_, 'a, R>,
         asks: &[AskForm],
-    ) -> Result<Vec<Answer>, RunFault> {
+    ) -> Result<Vec<Answer>, RunFault>
+        ensures { place.old.recorder.has_ended ≡ false →
+            OnOk result (place.new.recorder.has_ended ≡ false) }
+    {
         let current = self.current.read(self.rt);
         let present = current.present(&self.plan);
         let Ok(mut port) = AskPort::new(self.alloc, present.config, place.client, asks) else {
             return Ok(Vec::new(self.alloc));
         };
-        let mut recorder = SharedRecorder::new(self.rt, &self.state, Some(current.era));
         let Turn { ending, .. } = place.receiver.turn(
             &present,
             &mut port,
-            &mut recorder,
+            &mut place.recorder,
             &mut place.clock,
             &mut place.watch,
         );
-        match ending {
-            Ending::Open => {}
-            Ending::Down => return Err(RunFault::Down),
-            Ending::Ended => return Err(RunFault::Unsynced),
+        if let Some(fault) = fault_after(ending) {
+            return Err(fault);
         }
         match answers_of(self.alloc, place.watch.noted(), port.into_replies()) {
             Ok(answers) => Ok(answers),

@@ -14,6 +14,8 @@ mod ask_watch;
 mod asking;
 mod current;
 mod disconnecting;
+mod following;
+mod holdings;
 mod look;
 mod receiving;
 mod reloading;
@@ -22,6 +24,7 @@ mod rolling;
 mod server;
 mod shared_recorder;
 mod showing;
+mod status;
 
 pub use accounts::{Accounts, AccountsFault};
 pub use rld_edges::{Access, Control, RunFault, Sockets};

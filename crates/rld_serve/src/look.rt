@@ -1,19 +1,16 @@
 //! What the running server shows of itself.
 
+use crate::holdings::{Holdings, Rest};
 use crate::server::Server;
-use rld_counts::{Cell, Counts, Histogram};
 use rld_look::{
-    AccessServersLook, AccountsLook, Look, Minute, Places, Recording, SocketLook, Totals,
-    add_links, client_looks, fullest_looks, held_in, join_servers, socket_in,
+    AccessServersLook, AccountsLook, Look, Minute, Recording, SocketLook, add_links, join_servers,
+    socket_in,
 };
-use rld_spelling::Header;
-use rld_state::{LinksPage, places_in};
-use rld_warnings::books_octets;
-use rld_watch::{Gate, cell_of, counts_of};
+use rld_state::LinksPage;
+use rld_watch::{GateCounts, counts_of};
 use rsl_account_file::read_file;
 use rsl_accounts::Config;
 use rsl_port::{Clock, SystemClock};
-use rsl_shard::Row;
 use rsl_wire::NoMemory;
 use std::sync::atomic::Ordering;
 use std::sync::{Arc, Wait};
@@ -32,80 +29,14 @@ const MAX_TABLE_LEN: u32 = 1_048_576;
 /// The number of links from which on those of one access server are joined while others are looked at.
 const FIRST_ROOM: usize = 16_384;
 
-/// What the receivers have counted.
-#[derive(Drop)]
-struct Counted {
-    /// At the authentication port, and of asks.
-    logins: Cell,
-    /// At the accounting port.
-    acct: Cell,
-    /// How long the answers of the authentication port took.
-    auth_times: Histogram,
-    /// How long the answers to asks took.
-    ask_times: Histogram,
-}
-
-/// What the store shows of itself, and its accounts.
-#[derive(Drop)]
-pub(crate) struct Holdings {
-    config: Arc<Config>,
-    header: Header,
-    moves: u64,
-    rows: Vec<Row>,
-}
-
-impl Holdings {
-    /// The places of the account with this name, if there is one.
-    pub(crate) fn places_of(&self, name: &[u8]) -> Option<Places> {
-        places_in(self.rows.as_slice(), self.config.account(name)?)
-    }
-}
-
 impl<'a, G, A, R: time::Clock + Wait> Server<'a, G, A, R> {
     /// What the server now shows of itself. Each receiver is looked at alone, and the store after
     /// them: each lock is held only while the data under it is copied. It fails only if memory is
     /// refused.
     pub(crate) fn look(&self) -> Result<Look, NoMemory> {
         let (counted, holdings) = self.gather()?;
-        let access_servers = self.access_servers(holdings.config.accounts())?;
-        let Counted {
-            logins,
-            acct,
-            auth_times,
-            ask_times,
-        } = counted;
-        let mut counts = Counts::new();
-        counts.add(&logins.counts());
-        counts.add(&acct.counts());
-        let Holdings {
-            config,
-            header,
-            moves,
-            rows,
-        } = holdings;
-        Ok(Look {
-            build: self.plan.build,
-            start: self.plan.start,
-            now: SystemClock::new(self.rt, self.plan.start).now(),
-            era: header.era,
-            generation: header.generation,
-            moves,
-            memory: books_octets(&*config),
-            recording: self.recording(),
-            clock_behind: self.clock_behind.load(Ordering::SeqCst),
-            archive: *self.archive.lock(self.rt),
-            counts,
-            clients: client_looks(self.alloc, &*config, &logins, &acct)?,
-            auth_times,
-            acct_times: acct.times(),
-            ask_times,
-            totals: Totals::of(&*config, rows.as_slice()),
-            fullest: fullest_looks(self.alloc, &*config, rows)?,
-            access_servers,
-            minutes: self.minutes()?,
-            refusals: self.refusals.lately(self.rt, self.alloc)?,
-            sockets: self.socket_looks()?,
-        })
+        let rest = self.rest(holdings.accounts())?;
+        holdings.look(self.alloc, self.plan.build, counted, rest)
     }
 
     /// What the accounts now hold. The store's lock is held only while its rows are copied. It
@@ -113,26 +44,34 @@ impl<'a, G, A, R: time::Clock + Wait> Server<'a, G, A, R> {
     pub(crate) fn accounts_look(&self) -> Result<AccountsLook, NoMemory> {
         let holdings = self.holdings()?;
         let now = SystemClock::new(self.rt, self.plan.start).now();
-        AccountsLook::of(self.alloc, now, &*holdings.config, holdings.rows.as_slice())
+        holdings.accounts_look(self.alloc, now)
     }
 
     /// The counts of the receivers, and what the store shows, all of the same accounts.
-    fn gather(&self) -> Result<(Counted, Holdings), NoMemory> {
+    fn gather(&self) -> Result<(GateCounts, Holdings), NoMemory> {
         let current = self.current.read(self.rt);
         let clients = current.config.clients();
         let readings = self.board.read(self.rt, self.alloc, clients)?;
-        let mut logins = cell_of(self.alloc, readings.as_slice(), Gate::Auth, clients)?;
-        let acct = cell_of(self.alloc, readings.as_slice(), Gate::Acct, clients)?;
-        let asks = cell_of(self.alloc, readings.as_slice(), Gate::Ask, clients)?;
-        let auth_times = logins.times();
-        logins.add(&asks);
-        let counted = Counted {
-            logins,
-            acct,
-            auth_times,
-            ask_times: asks.times(),
-        };
+        let counted = GateCounts::of(self.alloc, readings.as_slice(), clients)?;
         Ok((counted, self.holdings()?))
+    }
+
+    /// What a look has besides, of a server with this number of accounts.
+    fn rest(&self, accounts: u32) -> Result<Rest, NoMemory> {
+        let access_servers = self.access_servers(accounts)?;
+        let moment = SystemClock::new(self.rt, self.plan.start).now();
+        let archive = *self.archive.lock(self.rt);
+        Ok(Rest {
+            start: self.plan.start,
+            moment,
+            recording: self.recording(),
+            clock_behind: self.clock_behind.load(Ordering::SeqCst),
+            archive,
+            access_servers,
+            minutes: self.minutes()?,
+            refusals: self.refusals.lately(self.rt, self.alloc)?,
+            sockets: self.socket_looks()?,
+        })
     }
 
     /// Ends the present minute, if another has begun at this second. If memory for that is refused,
@@ -148,7 +87,7 @@ impl<'a, G, A, R: time::Clock + Wait> Server<'a, G, A, R> {
         let readings = self.board.read(self.rt, self.alloc, 0)?;
         let holdings = self.holdings()?;
         let counts = counts_of(readings.as_slice());
-        let held = held_in(holdings.rows.as_slice());
+        let held = holdings.held();
         self.history.lock(self.rt).begin_minute(now, &counts, held)?;
         Ok(())
     }
@@ -156,13 +95,7 @@ impl<'a, G, A, R: time::Clock + Wait> Server<'a, G, A, R> {
     /// What the store shows. Its lock is held while the rows are copied.
     pub(crate) fn holdings(&self) -> Result<Holdings, NoMemory> {
         let state = self.state.lock(self.rt);
-        let rows = state.recorder().rows(self.alloc)?;
-        Ok(Holdings {
-            config: state.config()?,
-            header: state.header(),
-            moves: state.moves(),
-            rows,
-        })
+        Holdings::of(self.alloc, &*state)
     }
 
     /// The access servers that hold links. Each page of the links is of one moment, with the clients of

@@ -1,10 +1,15 @@
 //! The workers that receive datagrams.
 
+ghost use Rattle.std.specs.Prelude.{◌≡◌, false, OnOk};
+
 use crate::accounts::Accounts;
+use crate::following::fault_after;
 use crate::server::Server;
+use crate::shared_recorder::SharedRecorder;
 use rld_edges::{Bound, Readiness, RunFault, SocketPort, StatusService};
+use rld_log::{FileLog, PacedLog};
 use rld_start::Generations;
-use rld_turn::{Ending, Receiver, Turn};
+use rld_turn::{Receiver, Turn};
 use rld_watch::{WatchContext, Watcher};
 use rsl_event::Port;
 use rsl_port::SystemClock;
@@ -14,10 +19,11 @@ use std::time;
 
 /// What a receiver keeps from turn to turn.
 #[derive(Drop)]
-struct Place<'a, R: Wait + time::Clock> {
+struct Place<'s, 'a, R: Wait + time::Clock> {
     receiver: Receiver,
-    clock: SystemClock<'a, R>,
-    watcher: Watcher<'a, R>,
+    recorder: SharedRecorder<'s, PacedLog<'a, FileLog>, R>,
+    clock: SystemClock<'s, R>,
+    watcher: Watcher<'s, R>,
 }
 
 /// What follows a turn on a socket.
@@ -53,6 +59,7 @@ where
         };
         let mut place = Place {
             receiver: Receiver::new(self.alloc, port)?,
+            recorder: self.recorder(),
             clock: SystemClock::new(self.rt, self.plan.start),
             watcher,
         };
@@ -72,32 +79,36 @@ where
     }
 
     /// Takes a turn on a socket. `Down` comes if the socket failed, and `Unsynced` if nothing more
-    /// can be recorded.
+    /// can be recorded: no turn follows one whose recorder has said so.
     fn take_turn(
         &self,
         bound: &Bound,
         port: Port,
-        place: &mut Place<'_, R>,
-    ) -> Result<Next, RunFault> {
+        place: &mut Place<'_, 'a, R>,
+    ) -> Result<Next, RunFault>
+        ensures { place.old.recorder.has_ended ≡ false →
+            OnOk result (place.new.recorder.has_ended ≡ false) }
+    {
         let current = self.current.read(self.rt);
         let present = current.present(&self.plan);
         let status = bound
             .status_server
             .then_some(StatusService { present, port });
         let mut datagrams = SocketPort::new(&bound.socket, self.alloc, status);
-        let mut recorder = self.recorder(Some(current.era));
         let Turn { ending, .. } = place.receiver.turn(
             &present,
             &mut datagrams,
-            &mut recorder,
+            &mut place.recorder,
             &mut place.clock,
             &mut place.watcher,
         );
-        match ending {
-            Ending::Open if datagrams.is_drained() => Ok(Next::Wait),
-            Ending::Open => Ok(Next::Turn),
-            Ending::Down => Err(RunFault::Down),
-            Ending::Ended => Err(RunFault::Unsynced),
+        if let Some(fault) = fault_after(ending) {
+            return Err(fault);
+        }
+        if datagrams.is_drained() {
+            Ok(Next::Wait)
+        } else {
+            Ok(Next::Turn)
         }
     }
 }

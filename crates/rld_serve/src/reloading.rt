@@ -1,6 +1,10 @@
 //! Reading the accounts of a running server again.
 
-ghost use Rattle.std.specs.Prelude.{◌≡◌, IfOk, IfSome, length};
+ghost use Rattle.std.specs.Prelude.{◌≡◌, ℕ, IfNone, IfOk, IfSome, length};
+ghost use Rattle.std.specs.Arc.{arc_value};
+ghost use Rattle.rld_spelling.specs.Tables.{table_of};
+ghost use Rattle.rld_start.specs.NextHeaders.{generation_named};
+ghost use Rattle.rld_state.specs.Headers.{IsHeaderOf};
 
 use crate::accounts::{Accounts, AccountsFault};
 use crate::ask_fault::AskFault;
@@ -81,7 +85,17 @@ where
 
     /// Prepares a change from these accounts to other ones.
     fn change_to(&self, former: &Config, config: Config) -> Result<Change, ReloadFault>
-        ensures { IfOk result (λ change. IfSome change.counts
+        ensures config { IfOk result (λ change. arc_value change.config ≡ config) }
+        ensures held { IfOk result (λ change. arc_value change.held ≡ config) }
+        ensures table { IfOk result (λ change. IfSome change.next
+            (λ next. IsHeaderOf self.now.plan.boot (arc_value change.held) next.header)) }
+        ensures kept { IfOk result (λ change. IfSome change.next
+            (λ next. next.key.generation ≡ generation_named next.header)) }
+        ensures goes_on { IfOk result (λ change. (boot : ℕ) →
+            IfNone change.next (table_of boot former.now ≡ table_of boot config)) }
+        ensures begins { IfOk result (λ change. (boot : ℕ) →
+            IfSome change.next (λ _. table_of boot former.now ≡ table_of boot config → ⊥)) }
+        ensures counts { IfOk result (λ change. IfSome change.counts
             (λ each. length each.items ≡ length self.now.board.places.items)) }
     {
         let config = Arc::new(self.alloc, config)?;
@@ -91,11 +105,7 @@ where
         } else {
             Some(self.board.counts_for(self.alloc, config.clients())?)
         };
-        let next = if is_same_era(former, &*config) {
-            None
-        } else {
-            Some(self.next_era(&*config)?)
-        };
+        let next = self.next_era_after(former, &*config)?;
         Ok(Change {
             config,
             held,
@@ -104,17 +114,48 @@ where
         })
     }
 
-    /// Makes the files of the era of these accounts.
-    fn next_era(&self, config: &Config) -> Result<NextEra<FileLog>, RollFault> {
+    /// Makes the files of the era of these accounts, unless that of the former ones goes on with them.
+    fn next_era_after(
+        &self,
+        former: &Config,
+        config: &Config,
+    ) -> Result<Option<NextEra<FileLog>>, RollFault>
+        ensures table { IfOk result (λ found. IfSome found (λ next.
+            IsHeaderOf self.now.plan.boot config.now next.header)) }
+        ensures kept { IfOk result (λ found. IfSome found (λ next.
+            next.key.generation ≡ generation_named next.header)) }
+        ensures goes_on { IfOk result (λ found. (boot : ℕ) →
+            IfNone found (table_of boot former.now ≡ table_of boot config.now)) }
+        ensures begins { IfOk result (λ found. (boot : ℕ) →
+            IfSome found (λ _. table_of boot former.now ≡ table_of boot config.now → ⊥)) }
+    {
+        if is_same_era(former, config) {
+            return Ok(None);
+        }
+        Ok(Some(self.next_era(config)?))
+    }
+
+    /// Makes the files of the era of these accounts, after the present one.
+    fn next_era(&self, config: &Config) -> Result<NextEra<FileLog>, RollFault>
+        ensures table { IfOk result (λ next.
+            IsHeaderOf self.now.plan.boot config.now next.header) }
+        ensures kept { IfOk result (λ next. next.key.generation ≡ generation_named next.header) }
+    {
+        let era = self.state.lock(self.rt).header().era;
         Ok(
             self.generations
-                .next_era(self.alloc, config, self.plan.boot)?,
+                .next_era(self.alloc, era, config, self.plan.boot)?,
         )
     }
 
     /// Makes a change, between the turns of all receivers.
     fn do_change(&self, change: Change) -> Result<Changed<'a>, ReloadFault>
-        requires { IfSome change.counts
+        requires same { arc_value change.config ≡ arc_value change.held }
+        requires table { IfSome change.next
+            (λ next. IsHeaderOf self.now.plan.boot (arc_value change.held) next.header) }
+        requires kept { IfSome change.next
+            (λ next. next.key.generation ≡ generation_named next.header) }
+        requires counts { IfSome change.counts
             (λ each. length each.items ≡ length self.now.board.places.items) }
     {
         let Change {
@@ -124,38 +165,49 @@ where
             counts,
         } = change;
         let mut current = self.current.write(self.rt);
-        let changed = self.go_on_by(held, next)?;
+        let (changed, present) = self.go_on_by(held, config, next)?;
         if let Some(counts) = counts {
             self.board.renew(self.rt, counts);
         }
-        let era = self.state.lock(self.rt).header().era;
-        *current = Current { config, era };
+        *current = present;
         Ok(changed)
     }
 
     /// Goes on with other accounts, in the era whose files were made for them, or in the present
-    /// one if there are none.
+    /// one if there are none. Gives what is present then, by another handle to them.
     fn go_on_by(
         &self,
         config: Arc<Config>,
+        other: Arc<Config>,
         next: Option<NextEra<FileLog>>,
-    ) -> Result<Changed<'a>, ReloadFault> {
+    ) -> Result<(Changed<'a>, Current), ReloadFault>
+        requires same { arc_value other ≡ arc_value config }
+        requires table { IfSome next
+            (λ next. IsHeaderOf self.now.plan.boot (arc_value config) next.header) }
+        requires kept { IfSome next (λ next. next.key.generation ≡ generation_named next.header) }
+        ensures config { IfOk result (λ changed. changed.1.config ≡ other) }
+        ensures boot { IfSome next (λ _. IfOk result (λ changed.
+            changed.1.boot ≡ self.now.plan.boot)) }
+    {
         let mut state = self.state.lock(self.rt);
         let Some(next) = next else {
             let era = state.header().era;
             if !state.go_on(config) {
                 return Err(ReloadFault::Changed);
             }
-            return Ok(Changed {
+            let changed = Changed {
                 reloaded: Reloaded::GoesOn(era),
                 former: None,
-            });
+            };
+            return Ok((changed, Current::of(&*state, other)));
         };
         let next = next.paced(self.plan.pacing);
-        let entered = state.begin_era(self.alloc, self.generations, config, next)?;
-        Ok(Changed {
+        let boot = self.plan.boot;
+        let entered = state.begin_era(self.alloc, self.generations, config, boot, next)?;
+        let changed = Changed {
             reloaded: Reloaded::Begun(entered.change),
             former: Some(entered.former),
-        })
+        };
+        Ok((changed, Current::of(&*state, other)))
     }
 }

@@ -2,7 +2,7 @@
 //! for the reader.
 
 use crate::accounts::Accounts;
-use crate::look::Holdings;
+use crate::holdings::Holdings;
 use crate::server::Server;
 use rld_counts::Counts;
 use rld_edges::{RunFault, StderrWriter};

@@ -3,7 +3,7 @@
 use crate::accounts::Accounts;
 use crate::server::Server;
 use rld_edges::RunFault;
-use rld_start::{Generations, generation_named};
+use rld_start::{Generations, Written, generation_named};
 use rld_state::{
     Notice, RollFault, RollTimer, Told, Trouble, archive_look, notice_of_archive, notice_of_roll,
 };
@@ -62,8 +62,8 @@ where
 
     /// Begins the next generation. Its log is made before the lock is taken.
     fn roll(&self) -> Result<(), RollFault> {
-        let era = self.state.lock(self.rt).header().era;
-        let next = self.generations.next_log(self.alloc, era)?;
+        let present = generation_named(&self.state.lock(self.rt).header());
+        let next = self.generations.next_log(self.alloc, present)?;
         let next = next.paced(self.plan.pacing);
         let mut state = self.state.lock(self.rt);
         let _older = state.roll(self.alloc, self.generations, next)?;
@@ -72,8 +72,7 @@ where
 
     /// Puts old logs away, and reports where that fails. What the archive then has is kept for whoever looks.
     pub(crate) fn put_away(&self, rolls: &mut Rolls, now: u64) {
-        let header = self.state.lock(self.rt).header();
-        let newest = generation_named(&header);
+        let newest = Written::by(self.state.lock(self.rt).recorder());
         let outcome = self.generations.put_away(self.alloc, newest, now);
         self.tell_if_any(notice_of_archive(&mut rolls.archive, outcome));
         if let Ok(logs) = self.generations.archived_logs(self.alloc) {

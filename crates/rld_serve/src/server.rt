@@ -1,3 +1,8 @@
+ghost use Rattle.std.specs.Prelude.{◌≡◌, false, OnOk};
+ghost use Rattle.rld_books.specs.Saved.{IsServerOf};
+ghost use Rattle.rld_start.specs.NextHeaders.{generation_named};
+ghost use Rattle.rld_state.specs.Headers.{IsHeaderOf};
+
 use crate::accounts::Accounts;
 use crate::asking::Seat;
 use crate::current::Current;
@@ -9,6 +14,7 @@ use rld_ask::Asks;
 use rld_edges::{
     Control, Job, Orders, Readiness, RunFault, Shutdown, Sockets, Start, outcome_of, ports_of,
 };
+use rld_folder::LogKey;
 use rld_log::{FileLog, PacedLog, Pacing};
 use rld_look::{ArchiveLook, Build, History, Pages, Refusals, Sink};
 use rld_networks::Network;
@@ -64,7 +70,7 @@ pub(crate) struct Server<'a, G, A, R> {
     pub(crate) sockets: &'a Sockets,
     pub(crate) generations: &'a G,
     pub(crate) accounts: &'a A,
-    pub(crate) state: Mutex<ServerState<Store<PacedLog<'a, FileLog>>>>,
+    pub(crate) state: Mutex<ServerState<PacedLog<'a, FileLog>>>,
     pub(crate) board: Board,
     /// Where asks are counted, if they come in.
     pub(crate) seat: Option<Seat>,
@@ -93,6 +99,9 @@ pub(crate) struct Server<'a, G, A, R> {
 /// On an operator's request the accounts are read again (`reload`), between the turns of all
 /// receivers. What comes meanwhile waits in the sockets' buffers.
 ///
+/// The store's books are of these accounts, and it writes the generation of the plan's header, which
+/// has the digest of their table under the plan's boot number. `key` is the right to remove its log.
+///
 /// `greeting` is written to standard error once all workers have started. A line says when batches
 /// are no longer recorded, and when they are again; so it does if a generation cannot begin, or
 /// logs cannot be put away. Each refused datagram has a line, up to 20 of a cause each second, and
@@ -117,6 +126,7 @@ pub fn serve<'a, P, G, A, R>(
     generations: &'a G,
     accounts: &'a A,
     store: Store<PacedLog<'a, FileLog>>,
+    key: LogKey,
 ) -> Result<(), RunFault>
 where
     P: Pages + Sync,
@@ -128,6 +138,10 @@ where
         + Threads
         + Wait
         + Sync,
+    requires server { IsServerOf config store.books }
+    requires written { store.header ≡ plan.header }
+    requires table { IsHeaderOf plan.boot config plan.header }
+    requires kept { key.generation ≡ generation_named plan.header }
 {
     let mut jobs = sockets.jobs(alloc, control)?;
     if pages.is_some() {
@@ -146,10 +160,9 @@ where
         orders,
     } = rooms;
     let config = Arc::new(alloc, config)?;
-    let current = Current {
-        config: Arc::try_clone(&config)?,
-        era: plan.header.era,
-    };
+    let held = Arc::try_clone(&config)?;
+    let state = ServerState::new(store, config, plan.boot, plan.header, key);
+    let current = Current::of(&state, held);
     let server = Server {
         rt,
         files,
@@ -158,7 +171,7 @@ where
         sockets,
         generations,
         accounts,
-        state: Mutex::new(ServerState::new(store, config, plan.header)),
+        state: Mutex::new(state),
         board,
         seat,
         refusals,
@@ -300,12 +313,11 @@ where
         }
     }
 
-    /// The recorder for a worker whose batches are of this era, or of none.
-    pub(crate) fn recorder(
-        &self,
-        era: Option<u64>,
-    ) -> SharedRecorder<'_, Store<PacedLog<'a, FileLog>>, R> {
-        SharedRecorder::new(self.rt, &self.state, era)
+    /// The recorder, for a worker.
+    pub(crate) fn recorder(&self) -> SharedRecorder<'_, PacedLog<'a, FileLog>, R>
+        ensures { result.has_ended ≡ false }
+    {
+        SharedRecorder::new(self.rt, &self.state)
     }
 
     /// Answers operators, one after the other.
@@ -331,7 +343,7 @@ where
         if !self.has_started()? {
             return Ok(());
         }
-        let mut recorder = self.recorder(None);
+        let mut recorder = self.recorder();
         let mut clock = SystemClock::new(self.rt, self.plan.start);
         let mut trouble = Trouble::new();
         let mut clock_trouble = Trouble::new();
@@ -369,9 +381,11 @@ where
     /// recorded.
     fn tick_once(
         &self,
-        recorder: &mut SharedRecorder<'_, Store<PacedLog<'a, FileLog>>, R>,
+        recorder: &mut SharedRecorder<'_, PacedLog<'a, FileLog>, R>,
         clock: &mut SystemClock<'_, R>,
-    ) -> Result<bool, RunFault> {
+    ) -> Result<bool, RunFault>
+        ensures { recorder.old.has_ended ≡ false → OnOk result (recorder.new.has_ended ≡ false) }
+    {
         self.plan.pacing.ticks.begin();
         let has_failed = match tick(self.alloc, recorder, clock) {
             Ok(()) => false,

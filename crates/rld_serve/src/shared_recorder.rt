@@ -1,3 +1,6 @@
+ghost use Rattle.std.specs.Prelude.{◌≡◌, false};
+
+use rld_log::Log;
 use rld_state::ServerState;
 use rld_store::{RecordFault, Recorded, Recorder};
 use rsl_shard::Move;
@@ -6,23 +9,25 @@ use std::sync::{Mutex, Wait};
 
 /// The recorder of a server, for one of its workers: each call waits for the lock.
 ///
-/// It reports nothing to contracts, since others share the recorder.
+/// To contracts it reports only whether it has said that nothing more can be recorded, since others
+/// share the recorder.
 #[derive(Drop)]
-pub(crate) struct SharedRecorder<'a, S: Recorder, R: Wait> {
+pub(crate) struct SharedRecorder<'a, L: Log, R: Wait> {
     rt: &'a R,
-    state: &'a Mutex<ServerState<S>>,
-    era: Option<u64>,
+    state: &'a Mutex<ServerState<L>>,
+    has_ended: bool,
 }
 
-impl<'a, S: Recorder, R: Wait> SharedRecorder<'a, S, R> {
-    /// The recorder under this lock, for batches that are prepared with the accounts of this era,
-    /// or without an era for batches that no account is in, such as ticks.
-    pub(crate) fn new(
-        rt: &'a R,
-        state: &'a Mutex<ServerState<S>>,
-        era: Option<u64>,
-    ) -> SharedRecorder<'a, S, R> {
-        SharedRecorder { rt, state, era }
+impl<'a, L: Log + Drop, R: Wait> SharedRecorder<'a, L, R> {
+    /// The recorder under this lock.
+    pub(crate) fn new(rt: &'a R, state: &'a Mutex<ServerState<L>>) -> SharedRecorder<'a, L, R>
+        ensures { result.has_ended ≡ false }
+    {
+        SharedRecorder {
+            rt,
+            state,
+            has_ended: false,
+        }
     }
 
     /// Whether a batch of any worker was not recorded since the last call.
@@ -31,13 +36,23 @@ impl<'a, S: Recorder, R: Wait> SharedRecorder<'a, S, R> {
     }
 }
 
-impl<S: Recorder, R: Wait> Recorder for SharedRecorder<'_, S, R> {
-    fn record(&mut self, alloc: Global, batch: Vec<Move>) -> Result<Recorded, RecordFault> {
-        let mut state = self.state.lock(self.rt);
-        let era = match self.era {
-            Some(era) => era,
-            None => state.header().era,
-        };
-        state.record(alloc, era, batch)
+impl<L: Log + Drop, R: Wait> Recorder for SharedRecorder<'_, L, R> {
+    ghost is_over = { λ shared. shared.has_ended };
+
+    fn record(
+        &mut self,
+        alloc: Global,
+        era: Option<u64>,
+        batch: Vec<Move>,
+    ) -> Result<Recorded, RecordFault> {
+        let outcome = self.state.lock(self.rt).record(alloc, era, batch);
+        match outcome {
+            Ok(recorded) => Ok(recorded),
+            Err(RecordFault::Failed) => Err(RecordFault::Failed),
+            Err(RecordFault::Ended) => {
+                self.has_ended = true;
+                Err(RecordFault::Ended)
+            }
+        }
     }
 }

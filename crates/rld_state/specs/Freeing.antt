@@ -1,5 +1,5 @@
 -- What comes of a session that is to be freed, or of all those of an access server.
-use Rattle.std.specs.Prelude.{◌≡◌, ⊤, ℕ, Bool, true, false, ◌||◌, List, [], ◌∷◌, ◌++◌}
+use Rattle.std.specs.Prelude.{◌≡◌, ⊤, ℕ, Bool, true, false, ◌||◌, List, [], ◌∷◌, ◌++◌, Option, Some, None, codes}
 use Rattle.std.specs.Option.{option_map_or}
 use Rattle.rsl_accounts.specs.Configuration.{Configuration}
 use Rattle.rsl_shard.specs.Restep.{BooksSeen}
@@ -80,3 +80,29 @@ abbrev pub IsNoted : (has_failed has_ended : Bool) → Freed → Type 0
 IsNoted has_failed has_ended (Done recorded) = ⊤
 IsNoted has_failed has_ended NotHeld = ⊤
 IsNoted has_failed has_ended Unrecorded = (has_failed || has_ended) ≡ true
+
+-- what an operator is told of it; nothing where it was not recorded, since then it is not done
+abbrev pub octets_of_freed : Freed → Option (List ℕ)
+octets_of_freed (Done recorded) = Some (codes "freed\nok\n")
+octets_of_freed NotHeld = Some (codes "no such session\nok\n")
+octets_of_freed Unrecorded = None
+
+-- a session was freed so, by some books of some accounts at some moment
+pub record WasFreed (named : NamedSession) (freed : Freed) : Type 0 where
+  pub config : Configuration
+  pub books : List BooksSeen
+  pub moment : ℕ
+  pub freed_is : IsFreed config books named moment freed
+
+-- those of an access server were freed so
+pub record WereFreed (named : NamedServer) (freed : Freed) : Type 0 where
+  pub config : Configuration
+  pub books : List BooksSeen
+  pub moment : ℕ
+  pub freed_are : AreFreed config books named moment freed
+
+-- what an operator is told of what he has named: what came of it, as these octets
+pub record TellsFreed (Was : Freed → Type 0) (octets : List ℕ) : Type 0 where
+  pub freed : Freed
+  pub was : Was freed
+  pub told : Some octets ≡ octets_of_freed freed

@@ -1,6 +1,7 @@
 pub mod Clock
 pub mod Due
 pub mod Freeing
+pub mod Headers
 pub mod Keeping
 pub mod Listing
 pub mod Notices

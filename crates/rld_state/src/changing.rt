@@ -1,11 +1,13 @@
 //! Changing the accounts of a running server, within its era or with a new one.
 
-ghost use Rattle.std.specs.Prelude.{◌≡◌, ◌||◌, [], ℕ, IfErr, IfOk, IsErrOf, IsTrue, OnErr, OnOk};
+ghost use Rattle.std.specs.Prelude.{◌≡◌, ◌<◌, ◌||◌, [], true, ℕ, IfErr, IfOk, IsErrOf, IsTrue, OnErr, OnOk};
 ghost use Rattle.std.specs.Arc.{arc_value};
 ghost use Rattle.rld_admit.specs.Admitted.{AreAdmitted};
 ghost use Rattle.rld_books.specs.Saved.{IsServerOf};
+ghost use Rattle.rld_state.specs.Headers.{IsHeaderOf};
 ghost use Rattle.rld_state.specs.Keeping.{IsGone, is_over};
 ghost use Rattle.rld_spelling.specs.Tables.{table_of};
+ghost use Rattle.rld_start.specs.Counted.{AreSessionsOf};
 ghost use Rattle.rld_start.specs.NextHeaders.{generation_named};
 ghost use Rattle.rld_store.specs.Premises.{Only};
 ghost use Rattle.rld_store.specs.Standing.{StandsFor};
@@ -17,7 +19,7 @@ use rld_books::BlankBooks;
 use rld_folder::Synced;
 use rld_log::Log;
 use rld_spelling::Header;
-use rld_start::{Generations, NextEra, StartFault, admitted_books, generation_named, sessions_in};
+use rld_start::{Generations, NextEra, Written, admitted_books, generation_named, sessions_in};
 use rld_store::Store;
 use rsl_accounts::Config;
 use std::alloc::Global;
@@ -46,23 +48,32 @@ pub struct Entered<L: Log> {
     pub former: Store<L>,
 }
 
-impl<L: Log + Drop> ServerState<Store<L>> {
-    /// Begins the era of other accounts, whose files were made, with the books admitted from the
-    /// present one. Its log is synced to the disk, whatever the pacing, before anything is recorded
-    /// in it.
+impl<L: Log + Drop> ServerState<L> {
+    /// Begins the era of other accounts, whose files were made under this boot number, with the books
+    /// admitted from the present one. Its header has the digest of their table, and its log is synced to the disk,
+    /// whatever the pacing, before anything is recorded in it.
     ///
     /// After a fault the log is removed before anything more is recorded, as of `roll`, and the
-    /// present era goes on. `Ended` comes if the removal of the log is not certain, and if nothing
-    /// more could be recorded before: then nothing more is recorded.
+    /// present era goes on. An era that is not above the present one is `Former`. `Ended` comes if the
+    /// removal of the log is not certain, and if nothing more could be recorded before: then nothing
+    /// more is recorded.
     pub fn begin_era<G: Generations>(
         &mut self,
         alloc: Global,
         generations: &G,
         config: Arc<Config>,
+        boot: u64,
         next: NextEra<L>,
     ) -> Result<Entered<L>, NotBegun>
+        requires table { IsHeaderOf boot (arc_value config) next.header }
+        requires kept { next.key.generation ≡ generation_named next.header }
+        ensures given_up { self.old.has_ended ≡ true →
+            (IsErrOf result NotBegun.Ended) × (self.new ≡ self.old) }
         ensures gone { IfErr result (IsGone (generation_named next.header)) }
+        ensures newer { OnOk result (self.old.header.era < self.new.header.era) }
         ensures config { OnOk result (self.new.config ≡ config) }
+        ensures boot { OnOk result (self.new.boot ≡ boot) }
+        ensures key { OnOk result (self.new.key ≡ next.key) }
         ensures header { OnOk result (self.new.header ≡ next.header) }
         ensures moves { OnOk result (self.new.moves ≡ 0) }
         ensures server { OnOk result (IsServerOf (arc_value config) self.new.recorder.books) }
@@ -71,6 +82,9 @@ impl<L: Log + Drop> ServerState<Store<L>> {
             (table_of after (arc_value config)) self.new.recorder.books) }
         ensures eras { IfOk result (λ entered. (entered.change.former ≡ self.old.header.era)
             × (entered.change.era ≡ next.header.era)) }
+        ensures sessions { IfOk result (λ entered.
+            AreSessionsOf self.old.recorder.books entered.change.held
+            × AreSessionsOf self.new.recorder.books entered.change.sessions) }
         ensures former { IfOk result (λ entered. entered.former ≡ self.old.recorder) }
         ensures ended { self.new.has_ended ≡ (self.old.has_ended || is_over result) }
         ensures failed { self.new.has_failed ≡ self.old.has_failed }
@@ -84,21 +98,29 @@ impl<L: Log + Drop> ServerState<Store<L>> {
         // After a fault the present era stays, with its accounts, its log and its count.
         ensures same { OnErr result (self.new.recorder ≡ self.old.recorder) }
         ensures same_config { OnErr result (self.new.config ≡ self.old.config) }
+        ensures same_key { OnErr result (self.new.key ≡ self.old.key) }
+        ensures same_boot { OnErr result (self.new.boot ≡ self.old.boot) }
         ensures same_header { OnErr result (self.new.header ≡ self.old.header) }
         ensures same_moves { OnErr result (self.new.moves ≡ self.old.moves) }
     {
         if self.has_ended() {
             return Err(NotBegun::Ended);
         }
-        let generation = generation_named(&next.header);
-        match self.opening(alloc, generations, &*config, next) {
+        let NextEra {
+            header,
+            key,
+            log,
+            blanks,
+        } = next;
+        match self.opening(alloc, generations, &*config, header, log, blanks) {
             Ok(opening) => {
                 let change = opening.change;
-                let former = self.enter(opening, config);
+                let former = self.enter(opening, key, config, boot);
                 Ok(Entered { change, former })
             }
             Err(fault) => {
-                let removed = generations.remove(alloc, generation);
+                let generation = key.generation();
+                let removed = generations.remove(alloc, key);
                 Err(self.pass_over(generation, fault, removed))
             }
         }
@@ -111,9 +133,13 @@ impl<L: Log + Drop> ServerState<Store<L>> {
         alloc: Global,
         generations: &G,
         config: &Config,
-        next: NextEra<L>,
+        header: Header,
+        log: L,
+        blanks: BlankBooks,
     ) -> Result<Opening<L>, RollFault>
-        ensures header { IfOk result (λ opening. opening.header ≡ next.header) }
+        ensures newer { OnOk result (self.now.header.era < header.era) }
+        ensures header { IfOk result (λ opening. opening.header ≡ header) }
+        ensures written { IfOk result (λ opening. opening.store.header ≡ header) }
         ensures server { IfOk result (λ opening. IsServerOf config.now opening.store.books) }
         ensures admitted { IfOk result (λ opening. (boot after : ℕ) →
             AreAdmitted (table_of boot (arc_value self.now.config)) self.now.recorder.books
@@ -121,23 +147,25 @@ impl<L: Log + Drop> ServerState<Store<L>> {
         ensures synced { IfOk result (λ opening.
             opening.synced.generation ≡ generation_named opening.header) }
         ensures eras { IfOk result (λ opening. (opening.change.former ≡ self.now.header.era)
-            × (opening.change.era ≡ next.header.era)) }
+            × (opening.change.era ≡ header.era)) }
+        ensures held { IfOk result (λ opening.
+            AreSessionsOf self.now.recorder.books opening.change.held) }
+        ensures sessions { IfOk result (λ opening.
+            AreSessionsOf opening.store.books opening.change.sessions) }
         ensures going_on { IsErrOf result RollFault.Ended → ⊥ }
         ensures stands { IfOk result (λ opening. IsTrue (L.tells opening.store.log) →
-            Only (L.seen next.log) (L.may_leave next.log) →
+            Only (L.seen log) (L.may_leave log) →
             StandsFor config.now opening.store.books opening.store.counts L.tears opening.store.end
             (L.seen opening.store.log) (L.may_leave opening.store.log) opening.store.whole opening.store.books [] []) }
     {
-        let held = sessions_in(self.recorder().rows(alloc)?.as_slice());
         let former = self.header();
-        let NextEra {
-            header,
-            log,
-            blanks,
-        } = next;
+        if header.era <= former.era {
+            return Err(RollFault::Former);
+        }
+        let held = sessions_in(self.recorder().rows(alloc)?.as_slice());
         let store = self.admit(alloc, config, header, blanks, log)?;
         let sessions = sessions_in(store.rows(alloc)?.as_slice());
-        let synced = generations.sync(alloc, generation_named(&header))?;
+        let synced = generations.sync(alloc, Written::by(&store))?;
         Ok(Opening {
             store,
             header,
@@ -152,7 +180,7 @@ impl<L: Log + Drop> ServerState<Store<L>> {
     }
 }
 
-impl<L: Log + Drop> ServerState<Store<L>> {
+impl<L: Log + Drop> ServerState<L> {
     /// The books admitted to other accounts, as a store that begins the generation of this header
     /// in an empty log. Blank books that were made for those accounts are used up. After a fault
     /// the log has to be removed.
@@ -164,6 +192,7 @@ impl<L: Log + Drop> ServerState<Store<L>> {
         blanks: BlankBooks,
         log: L,
     ) -> Result<Store<L>, RollFault>
+        ensures header { IfOk result (λ store. store.header ≡ header) }
         ensures server { IfOk result (λ store. IsServerOf config.now store.books) }
         ensures admitted { IfOk result (λ store. (boot after : ℕ) →
             AreAdmitted (table_of boot (arc_value self.now.config)) self.now.recorder.books

@@ -8,7 +8,6 @@ ghost use Rattle.rld_state.specs.Clock.{is_behind, clock_news, seconds_behind};
 use crate::state::ServerState;
 use crate::trouble::{News, Trouble};
 use rld_log::Log;
-use rld_store::Store;
 use std::fmt;
 
 /// What the server reports of its clock. It prints as a line of standard error.
@@ -32,7 +31,7 @@ impl fmt::Display for ClockNews {
     }
 }
 
-impl<L: Log + Drop> ServerState<Store<L>> {
+impl<L: Log + Drop> ServerState<L> {
     /// The greatest clock of its books: the greatest moment that any account has seen, in seconds since
     /// 1970.
     pub fn clock(&self) -> u64

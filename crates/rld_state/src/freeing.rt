@@ -3,16 +3,18 @@
 
 ghost use Rattle.std.specs.Prelude.{◌≡◌, ◌∷◌, [], List, IfOk, IsTrue, OnErr};
 ghost use Rattle.std.specs.Arc.{arc_value};
-ghost use Rattle.rld_state.specs.Freeing.{AreFreed, AreFreedBy, IsFreed, IsFreedBy, IsNoted, StaysUnheld, books_after_it, history_after_it, is_held_in, moves_after_it};
+ghost use Rattle.std.specs.Option.{option_map};
+ghost use Rattle.rld_control.specs.Reply.{reply_octets};
+ghost use Rattle.rld_state.specs.Freeing.{AreFreed, AreFreedBy, IsFreed, IsFreedBy, IsNoted, StaysUnheld, books_after_it, history_after_it, is_held_in, moves_after_it, octets_of_freed};
 ghost use Rattle.rld_store.specs.Stored.{HasRecorded};
 ghost use Rattle.rsl_accounts.specs.Configuration.{Configuration};
 ghost use Rattle.rsl_shard.specs.Restep.{BooksSeen};
 ghost use Rattle.rsl_shard.specs.declared.moved.Move.{Move as OneMove};
 
 use crate::state::ServerState;
-use rld_control::{FreeFault, NamedServer, NamedSession, Off, Stop};
+use rld_control::{FreeFault, NamedServer, NamedSession, Off, Reply, Stop};
 use rld_log::Log;
-use rld_store::{Recorded, Store};
+use rld_store::Recorded;
 use rsl_shard::Move;
 use rsl_wire::NoMemory;
 use std::alloc::Global;
@@ -28,16 +30,29 @@ pub enum Freed {
     Unrecorded,
 }
 
-impl<L: Log + Drop> ServerState<Store<L>> {
+impl Freed {
+    /// The answer to the operator who asked for it; `None` where it was not recorded, since then it
+    /// is not done.
+    pub fn reply(&self) -> Option<Reply<'static>>
+        ensures { option_map reply_octets result ≡ octets_of_freed self.now }
+    {
+        match self {
+            Freed::Done(_recorded) => Some(Reply::Done(b"freed\n")),
+            Freed::NotHeld => Some(Reply::Done(b"no such session\n")),
+            Freed::Unrecorded => None,
+        }
+    }
+}
+
+impl<L: Log + Drop> ServerState<L> {
     /// Frees the place of a session that an operator names: records the Stop that its access server would
-    /// have sent to the server with this boot number, at a moment in seconds since 1970. Where no link is
-    /// bound to the session nothing is recorded.
+    /// have sent to this server, at a moment in seconds since 1970. Where no link is bound to the session
+    /// nothing is recorded.
     ///
     /// The faults are those of `Stop::of`. With each of them all is as it was.
     pub fn free(
         &mut self,
         alloc: Global,
-        boot: u64,
         named: &NamedSession,
         moment: u64,
     ) -> Result<Freed, FreeFault>
@@ -63,7 +78,7 @@ impl<L: Log + Drop> ServerState<Store<L>> {
             (L.seen self.new.recorder.log) (L.may_leave self.new.recorder.log) self.new.recorder.whole
             self.new.recorder.books (history_after_it history freed)) }
     {
-        let stop = Stop::of(alloc, self.accounts(), boot, named)?;
+        let stop = Stop::of(alloc, self.accounts(), self.boot(), named)?;
         Ok(self.record_stop(alloc, stop, moment)?)
     }
 
@@ -95,21 +110,20 @@ impl<L: Log + Drop> ServerState<Store<L>> {
         }
         let batch = batch_of(alloc, stop.into_move(moment))?;
         let era = self.header().era;
-        match self.record(alloc, era, batch) {
+        match self.record(alloc, Some(era), batch) {
             Ok(recorded) => Ok(Freed::Done(recorded)),
             Err(_) => Ok(Freed::Unrecorded),
         }
     }
 
     /// Frees the places of all sessions of an access server that an operator names: records the
-    /// restart that its Accounting-Off means to the server with this boot number, at a moment in
-    /// seconds since 1970, whether or not it has a session.
+    /// restart that its Accounting-Off means to this server, at a moment in seconds since 1970, whether
+    /// or not it has a session.
     ///
     /// The faults are those of `Off::of`. With each of them all is as it was.
     pub fn free_server(
         &mut self,
         alloc: Global,
-        boot: u64,
         named: &NamedServer,
         moment: u64,
     ) -> Result<Freed, FreeFault>
@@ -134,7 +148,7 @@ impl<L: Log + Drop> ServerState<Store<L>> {
             (L.seen self.new.recorder.log) (L.may_leave self.new.recorder.log) self.new.recorder.whole
             self.new.recorder.books (history_after_it history freed)) }
     {
-        let off = Off::of(alloc, self.accounts(), boot, named)?;
+        let off = Off::of(alloc, self.accounts(), self.boot(), named)?;
         Ok(self.record_off(alloc, off, moment)?)
     }
 
@@ -162,7 +176,7 @@ impl<L: Log + Drop> ServerState<Store<L>> {
     {
         let batch = batch_of(alloc, off.into_move(moment))?;
         let era = self.header().era;
-        match self.record(alloc, era, batch) {
+        match self.record(alloc, Some(era), batch) {
             Ok(recorded) => Ok(Freed::Done(recorded)),
             Err(_fault) => Ok(Freed::Unrecorded),
         }

@@ -19,6 +19,7 @@ mod clock;
 mod freeing;
 mod listing;
 mod places;
+mod recording;
 mod reload_result;
 mod roll_fault;
 mod state;

@@ -1,14 +1,16 @@
 //! The links of all accounts, a page at a time.
 
-ghost use Rattle.std.specs.Prelude.{◌≡◌, ◌+◌, ◌<◌, ◌≤◌, length, IfOk};
+ghost use Rattle.std.specs.Prelude.{◌≡◌, ◌+◌, ◌<◌, ◌≤◌, length, IfOk, IfSome};
 ghost use Rattle.std.specs.Arc.{arc_value};
+ghost use Rattle.std.specs.Option.{option_map};
+ghost use Rattle.rsl_accounts.specs.Configuration.{account_number};
+ghost use Rattle.rld_control.specs.declared.listing.AccountLinks.{AccountLinks as HeldLinks};
 ghost use Rattle.rsl_session.specs.Saved.{saved_links};
 ghost use Rattle.rld_state.specs.Listing.{AreHeldFrom, links_held};
 
 use crate::state::ServerState;
 use rld_control::AccountLinks;
 use rld_log::Log;
-use rld_store::Store;
 use rsl_wire::NoMemory;
 use std::alloc::Global;
 
@@ -28,7 +30,7 @@ pub struct LinksPage {
     pub next: u32,
 }
 
-impl<L: Log + Drop> ServerState<Store<L>> {
+impl<L: Log + Drop> ServerState<L> {
     /// The links of the accounts from the number `first` on, in file order, and of each in the order
     /// in which they opened: of at most `MOST_ACCOUNTS` accounts, and of no other once there are
     /// `ENOUGH_LINKS`. It fails only if memory is refused.
@@ -37,6 +39,7 @@ impl<L: Log + Drop> ServerState<Store<L>> {
         ensures held { IfOk result (λ page.
             AreHeldFrom self.now.recorder.books first page.held.items) }
         ensures next { IfOk result (λ page. page.next ≡ first + length page.held.items) }
+        ensures few { IfOk result (λ page. length page.held.items ≤ 1024) }
         ensures some { first < length (arc_value self.now.config).accounts →
             IfOk result (λ page. first < page.next) }
         ensures within { first ≤ length (arc_value self.now.config).accounts →
@@ -55,6 +58,22 @@ impl<L: Log + Drop> ServerState<Store<L>> {
             }
         }
         Ok(LinksPage { held, next: end })
+    }
+
+    /// What the account with this name holds: its links, in the order in which they opened. `None`
+    /// if there is no such account. It fails only if memory is refused.
+    pub fn held_by(&self, alloc: Global, name: &[u8]) -> Result<Option<AccountLinks>, NoMemory>
+        ensures account { IfOk result (λ found. option_map (λ (held : HeldLinks). held.account) found
+            ≡ account_number (arc_value self.now.config) name.now) }
+        ensures links { IfOk result (λ found. IfSome found (λ held.
+            saved_links held.links.items ≡ links_held self.now.recorder.books held.account)) }
+        ensures within { IfOk result (λ found. IfSome found (λ held.
+            held.account < length (arc_value self.now.config).accounts)) }
+    {
+        match self.accounts().account(name) {
+            Some(account) => Ok(Some(self.links_held(alloc, account)?)),
+            None => Ok(None),
+        }
     }
 
     /// The links of an account.
@@ -79,6 +98,7 @@ fn end_of(accounts: u32, first: u32) -> u32
     ensures from { first ≤ result }
     ensures within { first ≤ accounts → result ≤ accounts }
     ensures some { first < accounts → first < result }
+    ensures few { result ≤ first + 1024 }
 {
     let end = accounts.min(first.saturating_add(MOST_ACCOUNTS));
     end.max(first)

@@ -20,8 +20,8 @@ pub enum RollFault {
     /// Its header or its snapshot could not be written and synced. Its log is gone.
     #[error("{0}")]
     Store(StoreFault),
-    /// Another era has begun meanwhile. Its log is gone.
-    #[error("another era has begun")]
+    /// Another era or another generation has begun meanwhile. Its log is gone.
+    #[error("another era or generation has begun")]
     Former,
     /// Nothing more can be recorded: nothing could before, or the removal of the next generation's
     /// log is not certain.

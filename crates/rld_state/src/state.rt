@@ -1,134 +1,135 @@
-ghost use Rattle.std.specs.Prelude.{◌≡◌, ℕ, true, length, Err, IfErr, IfOk, IsErrOf, OnErr, OnOk, List, [], ◌++◌, ◌||◌, ◌↔◌, false, IsTrue, Ok};
+ghost use Rattle.std.specs.Prelude.{◌≡◌, ◌<◌, ℕ, true, length, Err, IfErr, IfOk, IsErrOf, OnErr, OnOk, List, [], ◌++◌, ◌||◌, ◌↔◌, false, IsTrue, MatchResult, Ok};
 ghost use Rattle.std.specs.Arc.{arc_value};
+ghost use Rattle.std.specs.Bool.{OnFalse, OnTrue};
 ghost use Rattle.rld_books.specs.Saved.{IsServerOf};
 ghost use Rattle.rld_books.specs.Server.{decisions_of, replay};
+ghost use Rattle.rld_state.specs.Headers.{IsHeaderOf};
 ghost use Rattle.rld_state.specs.Keeping.{IsGone, ends, is_ended, is_failed, is_over, moves_after};
 ghost use Rattle.rld_spelling.specs.Tables.{table_of};
 ghost use Rattle.rld_start.specs.NextHeaders.{generation_named, header_after};
 ghost use Rattle.rld_store.specs.Premises.{Only};
-ghost use Rattle.rld_store.specs.Recorded.{AreDecided};
+ghost use Rattle.rld_store.specs.Recorded.{AreDecided, IsOfEra};
 ghost use Rattle.rld_store.specs.Standing.{StandsFor};
+ghost use Rattle.rld_store.specs.Stored.{HasRecorded};
 ghost use Rattle.rld_store.specs.declared.fault.RecordFault.TheVariants.{Ended as over, Failed as failed};
 ghost use Rattle.rsl_accounts.specs.Configuration.{Configuration};
 ghost use Rattle.rsl_shard.specs.Restep.{BooksSeen};
 ghost use Rattle.rsl_shard.specs.declared.moved.Move.{Move as OneMove};
 
 use crate::changing::Opening;
+use crate::recording::{is_ended, is_failed, is_of_era, moves_after, record_in};
 use crate::roll_fault::{NotBegun, RollFault};
-use rld_folder::{FolderFault, Generation, Removed};
+use rld_folder::{FolderFault, Generation, LogKey, Removed};
 use rld_log::Log;
 use rld_spelling::Header;
 use rld_start::{Generations, NextLog, StartFault, is_same_era, next_header};
-use rld_store::{RecordFault, Recorded, Recorder, Store};
+use rld_store::{RecordFault, Recorded, Store};
 use rsl_accounts::Config;
 use rsl_shard::Move;
 use std::alloc::{AllocError, Global};
 use std::mem;
 use std::sync::Arc;
 
+/// A generation that did not begin, and the right to remove its log.
+#[derive(Drop)]
+struct Unbegun {
+    key: LogKey,
+    fault: RollFault,
+}
+
 /// What the lock of a server protects: its recorder, which is not called again once it can record
 /// nothing more; the accounts, clients and rules of its books; the header of the generation that it
 /// writes, and the number of its moves; and whether a batch was not recorded recently.
+///
+/// What each of its values keeps, whoever has the lock: its books are of these accounts, the header
+/// has the digest of their table under the boot number, the store writes the generation of the
+/// header, and the right to remove its log is kept: nothing else can remove it.
 #[derive(Drop)]
-pub struct ServerState<S: Recorder> {
-    recorder: S,
+pub struct ServerState<L: Log> {
+    recorder: Store<L>,
     config: Arc<Config>,
+    boot: u64,
     header: Header,
+    key: LogKey,
     moves: u64,
     has_ended: bool,
     has_failed: bool,
+    ghost server: { IsServerOf (arc_value config) recorder.books },
+    ghost table: { IsHeaderOf boot (arc_value config) header },
+    ghost written: { recorder.header ≡ header },
+    ghost kept: { key.generation ≡ generation_named header },
 }
 
-impl<S: Recorder> ServerState<S> {
-    /// The state of a server with a recorder that has not been called, whose books are of this
-    /// configuration, and that writes the generation of this header, with no move yet.
-    pub fn new(recorder: S, config: Arc<Config>, header: Header) -> ServerState<S>
-        ensures recorder { result.recorder ≡ recorder }
-        ensures config { result.config ≡ config }
-        ensures header { result.header ≡ header }
-        ensures moves { result.moves ≡ 0 }
-        ensures has_ended { result.has_ended ≡ false }
-        ensures has_failed { result.has_failed ≡ false }
-    {
-        ServerState {
-            recorder,
-            config,
-            header,
-            moves: 0,
-            has_ended: false,
-            has_failed: false,
-        }
-    }
-
-    /// Records a batch that was prepared with the accounts of the era `era`, and counts its moves.
-    /// `Ended` comes if it has come before, and `Failed` if another era goes on, whose numbers mean
-    /// other accounts; then the recorder is not called.
+impl<L: Log + Drop> ServerState<L> {
+    /// Records a batch that was prepared with the accounts of the era `era`, or that names no
+    /// account, if that is `None`, and counts its moves. `Ended` comes if it has come before, and
+    /// `Failed` if another era goes on, whose numbers mean other accounts; then the recorder is not
+    /// called.
     pub fn record(
         &mut self,
         alloc: Global,
-        era: u64,
+        era: Option<u64>,
         batch: Vec<Move>,
     ) -> Result<Recorded, RecordFault>
         ensures count { IfOk result (λ recorded. length recorded.decisions ≡ length batch.items) }
         ensures batch { IfOk result (λ recorded. recorded.batch ≡ batch.items) }
         ensures decided { IfOk result AreDecided }
+        ensures era { IfOk result (λ recorded. IsOfEra era recorded.era) }
+        ensures present { IfOk result (λ recorded. recorded.era ≡ self.old.header.era) }
         ensures given_up { self.old.has_ended ≡ true → (result ≡ Err over) × (self.new ≡ self.old) }
-        ensures other_era { (era ≡ self.old.header.era → ⊥) → self.old.has_ended ≡ false →
-            (result ≡ Err failed) × (self.new ≡ record self.old { has_failed = true }) }
+        ensures other_era { (IsOfEra era self.old.header.era → ⊥) → self.old.has_ended ≡ false →
+            (result ≡ Err failed) × (self.new.recorder ≡ self.old.recorder) }
         ensures ended { self.new.has_ended ≡ (self.old.has_ended || is_ended result) }
         ensures failed { self.new.has_failed ≡ (self.old.has_failed || is_failed result) }
         ensures moves { self.new.moves ≡ moves_after self.old.moves (length batch.items) result }
         ensures header { self.new.header ≡ self.old.header }
         ensures config { self.new.config ≡ self.old.config }
 
-        // What the recorder promises of a batch.
-        ensures telling { S.tells self.new.recorder ≡ true → S.tells self.old.recorder ≡ true }
-        ensures decisions { S.tells self.new.recorder ≡ true → IfOk result (λ recorded.
-            recorded.decisions ≡ decisions_of (S.books self.old.recorder) batch.items) }
-        ensures before { S.tells self.new.recorder ≡ true →
-            IfOk result (λ recorded. recorded.before ≡ S.books self.old.recorder) }
-        ensures books { S.tells self.new.recorder ≡ true → OnOk result
-            (S.books self.new.recorder ≡ replay (S.books self.old.recorder) batch.items) }
-        ensures same { S.tells self.new.recorder ≡ true →
-            OnErr result (S.books self.new.recorder ≡ S.books self.old.recorder) }
-        ensures recorded { S.tells self.new.recorder ≡ true →
+        ensures boot { self.new.boot ≡ self.old.boot }
+
+        // The decisions are those of the books, which have made the moves, or are as they were.
+        ensures decisions { IfOk result (λ recorded.
+            recorded.decisions ≡ decisions_of self.old.recorder.books batch.items) }
+        ensures before { IfOk result (λ recorded. recorded.before ≡ self.old.recorder.books) }
+        ensures books { OnOk result
+            (self.new.recorder.books ≡ replay self.old.recorder.books batch.items) }
+        ensures same { OnErr result (self.new.recorder.books ≡ self.old.recorder.books) }
+
+        // Over a log that tells, the store has recorded what it had before, and the batch.
+        ensures recorded { IsTrue (L.tells self.new.recorder.log) →
             (config : Configuration) (opening : List BooksSeen) (history : List OneMove) →
-            S.stands self.old.recorder config opening history →
-            OnOk result (S.stands self.new.recorder config opening (history ++ batch.items)) }
-        ensures unrecorded { S.tells self.new.recorder ≡ true →
+            (IsTrue (L.tells self.old.recorder.log) →
+            HasRecorded config opening self.old.recorder.counts L.tears self.old.recorder.end
+            (L.seen self.old.recorder.log) (L.may_leave self.old.recorder.log) self.old.recorder.whole
+            self.old.recorder.books history) → OnOk result
+            (HasRecorded config opening self.new.recorder.counts L.tears self.new.recorder.end
+            (L.seen self.new.recorder.log) (L.may_leave self.new.recorder.log) self.new.recorder.whole
+            self.new.recorder.books (history ++ batch.items)) }
+        ensures unrecorded { IsTrue (L.tells self.new.recorder.log) →
             (config : Configuration) (opening : List BooksSeen) (history : List OneMove) →
-            S.stands self.old.recorder config opening history →
-            OnErr result (S.stands self.new.recorder config opening history) }
+            (IsTrue (L.tells self.old.recorder.log) →
+            HasRecorded config opening self.old.recorder.counts L.tears self.old.recorder.end
+            (L.seen self.old.recorder.log) (L.may_leave self.old.recorder.log) self.old.recorder.whole
+            self.old.recorder.books history) → OnErr result
+            (HasRecorded config opening self.new.recorder.counts L.tears self.new.recorder.end
+            (L.seen self.new.recorder.log) (L.may_leave self.new.recorder.log) self.new.recorder.whole
+            self.new.recorder.books history) }
     {
         if self.has_ended {
             drop(batch);
             return Err(RecordFault::Ended);
         }
-        if era != self.header.era {
+        if !is_of_era(era, self.header.era) {
             drop(batch);
             self.has_failed = true;
             return Err(RecordFault::Failed);
         }
         let count = batch.len() as u64;
-        let outcome = self.recorder.record(alloc, batch);
-        self.note(&outcome, count);
+        let outcome = record_in(&mut self.recorder, alloc, batch);
+        self.moves = moves_after(self.moves, count, &outcome);
+        self.has_failed = self.has_failed || is_failed(&outcome);
+        self.has_ended = self.has_ended || is_ended(&outcome);
         outcome
-    }
-
-    /// Notes the outcome of a call of the recorder for a batch of `count` moves.
-    fn note(&mut self, outcome: &Result<Recorded, RecordFault>, count: u64)
-        ensures recorder { self.new.recorder ≡ self.old.recorder }
-        ensures config { self.new.config ≡ self.old.config }
-        ensures header { self.new.header ≡ self.old.header }
-        ensures moves { self.new.moves ≡ moves_after self.old.moves count outcome.now }
-        ensures ended { self.new.has_ended ≡ (self.old.has_ended || is_ended outcome.now) }
-        ensures failed { self.new.has_failed ≡ (self.old.has_failed || is_failed outcome.now) }
-    {
-        match outcome {
-            Ok(_) => self.moves = self.moves.saturating_add(count),
-            Err(RecordFault::Failed) => self.has_failed = true,
-            Err(RecordFault::Ended) => self.has_ended = true,
-        }
     }
 
     /// Whether nothing more can be recorded.
@@ -160,6 +161,15 @@ impl<S: Recorder> ServerState<S> {
         Arc::try_clone(&self.config)
     }
 
+    /// The boot number of its Classes, under which its header has the digest of the table of its
+    /// accounts.
+    pub fn boot(&self) -> u64
+        ensures boot { result ≡ self.now.boot }
+        ensures table { IsHeaderOf result (arc_value self.now.config) self.now.header }
+    {
+        self.boot
+    }
+
     /// The accounts, clients and rules, borrowed.
     pub fn accounts(&self) -> &Config
         ensures { result.now ≡ arc_value self.now.config }
@@ -176,9 +186,17 @@ impl<S: Recorder> ServerState<S> {
         removed: Result<Removed, FolderFault>,
     ) -> NotBegun
         requires { IfOk removed (λ removed. removed.generation ≡ failed) }
+        ensures outcome { MatchResult removed (λ removed. result ≡ NotBegun.PassedOver fault removed)
+            (λ _. result ≡ NotBegun.Ended) }
         ensures gone { IsGone failed result }
         ensures ended { self.new.has_ended ≡ (self.old.has_ended || ends result) }
-        ensures same { self.new ≡ record self.old { has_ended = self.new.has_ended } }
+        ensures recorder { self.new.recorder ≡ self.old.recorder }
+        ensures config { self.new.config ≡ self.old.config }
+        ensures boot { self.new.boot ≡ self.old.boot }
+        ensures header { self.new.header ≡ self.old.header }
+        ensures key { self.new.key ≡ self.old.key }
+        ensures moves { self.new.moves ≡ self.old.moves }
+        ensures failed { self.new.has_failed ≡ self.old.has_failed }
     {
         match removed {
             Ok(removed) => NotBegun::PassedOver(fault, removed),
@@ -190,7 +208,7 @@ impl<S: Recorder> ServerState<S> {
     }
 
     /// The recorder, to look at.
-    pub fn recorder(&self) -> &S
+    pub fn recorder(&self) -> &Store<L>
         ensures { result.now ≡ self.now.recorder }
     {
         &self.recorder
@@ -199,7 +217,14 @@ impl<S: Recorder> ServerState<S> {
     /// Whether a batch was not recorded since the last call.
     pub fn take_failed(&mut self) -> bool
         ensures found { result ≡ self.old.has_failed }
-        ensures same { self.new ≡ record self.old { has_failed = false } }
+        ensures taken { self.new.has_failed ≡ false }
+        ensures recorder { self.new.recorder ≡ self.old.recorder }
+        ensures config { self.new.config ≡ self.old.config }
+        ensures boot { self.new.boot ≡ self.old.boot }
+        ensures header { self.new.header ≡ self.old.header }
+        ensures key { self.new.key ≡ self.old.key }
+        ensures moves { self.new.moves ≡ self.old.moves }
+        ensures ended { self.new.has_ended ≡ self.old.has_ended }
     {
         let has_failed = self.has_failed;
         self.has_failed = false;
@@ -207,27 +232,68 @@ impl<S: Recorder> ServerState<S> {
     }
 }
 
-impl<L: Log + Drop> ServerState<Store<L>> {
+impl<L: Log + Drop> ServerState<L> {
+    /// The state of a server whose store has recorded nothing since it was made. Its books are of
+    /// this configuration, and it writes the generation of this header, with no move yet, which has
+    /// the digest of the table of these accounts under this boot number.
+    pub fn new(
+        store: Store<L>,
+        config: Arc<Config>,
+        boot: u64,
+        header: Header,
+        key: LogKey,
+    ) -> ServerState<L>
+        requires server { IsServerOf (arc_value config) store.books }
+        requires table { IsHeaderOf boot (arc_value config) header }
+        requires written { store.header ≡ header }
+        requires kept { key.generation ≡ generation_named header }
+        ensures recorder { result.recorder ≡ store }
+        ensures config { result.config ≡ config }
+        ensures boot { result.boot ≡ boot }
+        ensures header { result.header ≡ header }
+        ensures key { result.key ≡ key }
+        ensures moves { result.moves ≡ 0 }
+        ensures has_ended { result.has_ended ≡ false }
+        ensures has_failed { result.has_failed ≡ false }
+    {
+        ServerState {
+            recorder: store,
+            config,
+            boot,
+            header,
+            key,
+            moves: 0,
+            has_ended: false,
+            has_failed: false,
+        }
+    }
+
     /// Goes on in the generation of this log: its header counts the moves of the present one, and
     /// it has no move yet.
     ///
     /// After a fault the log is removed before anything more is recorded, since its snapshot may be
     /// whole, and a start would go on from it: then the present generation goes on. `Ended` comes
     /// if the removal of the log is not certain, and if nothing more could be recorded before: then
-    /// nothing more is recorded. A log of another era is `Former`, and removed too. The log of the
-    /// former generation is handed out.
+    /// nothing more is recorded. A log of another era, or of a generation that is not above the
+    /// present one, is `Former`, and removed too. The log of the former generation is handed out.
     pub fn roll<G: Generations>(
         &mut self,
         alloc: Global,
         generations: &G,
         next: NextLog<L>,
     ) -> Result<L, NotBegun>
-        ensures gone { IfErr result (IsGone next.generation) }
+        ensures given_up { self.old.has_ended ≡ true →
+            (IsErrOf result NotBegun.Ended) × (self.new ≡ self.old) }
+        ensures gone { IfErr result (IsGone next.key.generation) }
+        ensures newer { OnOk result (self.old.header.generation < self.new.header.generation) }
+        ensures key { OnOk result (self.new.key ≡ next.key) }
         ensures header { OnOk result (self.new.header
-            ≡ header_after self.old.header next.generation.number self.old.moves) }
-        ensures era { OnOk result (next.generation.era ≡ self.old.header.era) }
+            ≡ header_after self.old.header next.key.generation.number self.old.moves) }
+        ensures written { OnOk result (self.new.recorder.header ≡ self.new.header) }
+        ensures era { OnOk result (next.key.generation.era ≡ self.old.header.era) }
         ensures moves { OnOk result (self.new.moves ≡ 0) }
         ensures config { self.new.config ≡ self.old.config }
+        ensures boot { self.new.boot ≡ self.old.boot }
         ensures ended { self.new.has_ended ≡ (self.old.has_ended || is_over result) }
         ensures failed { self.new.has_failed ≡ self.old.has_failed }
         ensures books { self.new.recorder.books ≡ self.old.recorder.books }
@@ -245,32 +311,42 @@ impl<L: Log + Drop> ServerState<Store<L>> {
         ensures same { OnErr result (self.new.recorder ≡ self.old.recorder) }
         ensures same_header { OnErr result (self.new.header ≡ self.old.header) }
         ensures same_moves { OnErr result (self.new.moves ≡ self.old.moves) }
+        ensures same_key { OnErr result (self.new.key ≡ self.old.key) }
     {
         if self.has_ended() {
             return Err(NotBegun::Ended);
         }
-        let NextLog { generation, log } = next;
-        match self.begin_in(alloc, generation, log) {
+        let NextLog { key, log } = next;
+        match self.begin_in(alloc, key, log) {
             Ok(older) => Ok(older),
-            Err(fault) => {
-                let removed = generations.remove(alloc, generation);
+            Err(Unbegun { key, fault }) => {
+                let generation = key.generation();
+                let removed = generations.remove(alloc, key);
                 Err(self.pass_over(generation, fault, removed))
             }
         }
     }
 
-    /// Goes on in this generation, in an empty log, if it is one of the present era. The log of the
-    /// former one is handed out.
-    fn begin_in(&mut self, alloc: Global, generation: Generation, log: L) -> Result<L, RollFault>
+    /// Goes on in the generation of this key, in its empty log, if it is a later one of the present
+    /// era, and keeps the key in place of the former one. The log of the former one is handed out.
+    fn begin_in(&mut self, alloc: Global, key: LogKey, log: L) -> Result<L, Unbegun>
+        ensures key { OnOk result (self.new.key ≡ key) }
+        ensures unbegun { IfErr result (λ unbegun. unbegun.key ≡ key) }
         ensures header { OnOk result (self.new.header
-            ≡ header_after self.old.header generation.number self.old.moves) }
-        ensures era { OnOk result (generation.era ≡ self.old.header.era) }
+            ≡ header_after self.old.header key.generation.number self.old.moves) }
+        ensures written { OnOk result (self.new.recorder.header ≡ self.new.header) }
+        ensures newer { OnOk result (self.old.header.generation < self.new.header.generation) }
+        ensures era { OnOk result (key.generation.era ≡ self.old.header.era) }
         ensures moves { OnOk result (self.new.moves ≡ 0) }
         ensures config { self.new.config ≡ self.old.config }
+        ensures boot { self.new.boot ≡ self.old.boot }
         ensures ended { self.new.has_ended ≡ self.old.has_ended }
         ensures failed { self.new.has_failed ≡ self.old.has_failed }
-        ensures going_on { IsErrOf result RollFault.Ended → ⊥ }
-        ensures err { OnErr result (self.new ≡ self.old) }
+        ensures going_on { IfErr result (λ unbegun. unbegun.fault ≡ RollFault.Ended → ⊥) }
+        ensures same { OnErr result (self.new.recorder ≡ self.old.recorder) }
+        ensures same_header { OnErr result (self.new.header ≡ self.old.header) }
+        ensures same_key { OnErr result (self.new.key ≡ self.old.key) }
+        ensures same_moves { OnErr result (self.new.moves ≡ self.old.moves) }
         ensures older { IfOk result (λ older. older ≡ self.old.recorder.log) }
 
         // The store stands for the same history, by the next log alone.
@@ -282,19 +358,26 @@ impl<L: Log + Drop> ServerState<Store<L>> {
             OnOk result (StandsFor config opening self.new.recorder.counts L.tears self.new.recorder.end (L.seen self.new.recorder.log)
             (L.may_leave self.new.recorder.log) self.new.recorder.whole self.new.recorder.books history []) }
     {
-        if generation.era != self.header.era {
-            return Err(RollFault::Former);
+        let generation = key.generation();
+        if generation.era != self.header.era || generation.number <= self.header.generation {
+            let fault = RollFault::Former;
+            return Err(Unbegun { key, fault });
         }
         let Some(header) = next_header(&self.header, generation.number, self.moves) else {
-            return Err(RollFault::Start(StartFault::NoNumber));
+            let fault = RollFault::Start(StartFault::NoNumber);
+            return Err(Unbegun { key, fault });
         };
         match self.recorder.roll(alloc, header, log) {
             Ok(older) => {
                 self.header = header;
+                self.key = key;
                 self.moves = 0;
                 Ok(older)
             }
-            Err(refused) => Err(RollFault::Store(refused.fault)),
+            Err(refused) => {
+                let fault = RollFault::Store(refused.fault);
+                Err(Unbegun { key, fault })
+            }
         }
     }
 
@@ -303,12 +386,17 @@ impl<L: Log + Drop> ServerState<Store<L>> {
     pub fn go_on(&mut self, config: Arc<Config>) -> bool
         ensures same { (boot : ℕ) → IsTrue result ↔
             (table_of boot (arc_value self.old.config) ≡ table_of boot (arc_value config)) }
-        ensures config { result ≡ true → self.new ≡ record self.old { config = config } }
-        ensures kept { result ≡ false → self.new ≡ self.old }
+        ensures config { OnTrue result (self.new.config ≡ config) }
+        ensures recorder { self.new.recorder ≡ self.old.recorder }
+        ensures header { self.new.header ≡ self.old.header }
+        ensures boot { self.new.boot ≡ self.old.boot }
+        ensures key { self.new.key ≡ self.old.key }
+        ensures moves { self.new.moves ≡ self.old.moves }
+        ensures ended { self.new.has_ended ≡ self.old.has_ended }
+        ensures failed { self.new.has_failed ≡ self.old.has_failed }
+        ensures kept { OnFalse result (self.new ≡ self.old) }
 
-        // The books are those of the accounts, and the store stands for its history by them.
-        ensures server { IsServerOf (arc_value self.old.config) self.old.recorder.books →
-            IsServerOf (arc_value self.new.config) self.new.recorder.books }
+        // The store stands for its history by the accounts that the state then has.
         ensures stands { (opening : List BooksSeen) (history unanswered : List OneMove) →
             StandsFor (arc_value self.old.config) opening self.old.recorder.counts L.tears self.old.recorder.end
             (L.seen self.old.recorder.log) (L.may_leave self.old.recorder.log) self.old.recorder.whole
@@ -324,11 +412,24 @@ impl<L: Log + Drop> ServerState<Store<L>> {
         goes_on
     }
 
-    /// Goes on in an era that was begun, by its accounts, and hands out the store of the former one.
-    pub(crate) fn enter(&mut self, opening: Opening<L>, config: Arc<Config>) -> Store<L>
-        requires { opening.synced.generation ≡ generation_named opening.header }
+    /// Goes on in an era that was begun, by its accounts under this boot number, and hands out the
+    /// store of the former one.
+    pub(crate) fn enter(
+        &mut self,
+        opening: Opening<L>,
+        key: LogKey,
+        config: Arc<Config>,
+        boot: u64,
+    ) -> Store<L>
+        requires synced { opening.synced.generation ≡ generation_named opening.header }
+        requires server { IsServerOf (arc_value config) opening.store.books }
+        requires table { IsHeaderOf boot (arc_value config) opening.header }
+        requires written { opening.store.header ≡ opening.header }
+        requires kept { key.generation ≡ generation_named opening.header }
         ensures recorder { self.new.recorder ≡ opening.store }
+        ensures key { self.new.key ≡ key }
         ensures config { self.new.config ≡ config }
+        ensures boot { self.new.boot ≡ boot }
         ensures header { self.new.header ≡ opening.header }
         ensures moves { self.new.moves ≡ 0 }
         ensures ended { self.new.has_ended ≡ self.old.has_ended }
@@ -337,7 +438,9 @@ impl<L: Log + Drop> ServerState<Store<L>> {
     {
         let Opening { store, header, .. } = opening;
         self.config = config;
+        self.boot = boot;
         self.header = header;
+        self.key = key;
         self.moves = 0;
         mem::replace(&mut self.recorder, store)
     }

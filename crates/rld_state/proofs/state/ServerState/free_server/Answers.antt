@@ -1,7 +1,7 @@
 use Rattle.std.proofs.Common.{subst}
 use Rattle.rld_control.specs.Offs.{IsOffOf}
 use Rattle.rsl_accounts.specs.Configuration.{Configuration}
-use Rattle.rld_state.proofs.freeing.ServerState+Store+L.free_server.Goals as goal
+use Rattle.rld_state.proofs.state.ServerState.free_server.Goals as goal
 
 -- the accounts by which the Accounting-Off was made are those of the state
 pub returns-clause-freed : goal.returns-clause-freed

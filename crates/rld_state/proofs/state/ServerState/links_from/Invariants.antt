@@ -1,6 +1,6 @@
 use Rattle.std.proofs.Common.{◌≡◌, ◌+◌, length}
 use Rattle.rld_state.specs.Listing.{AreHeldFrom}
-use Rattle.rld_state.proofs.listing.ServerState+Store+L.links_from.Given as goal
+use Rattle.rld_state.proofs.state.ServerState.links_from.Given as goal
 
 -- the accounts that were looked at
 abbrev pub invariant-loop-account : goal.invariant-loop-account

@@ -1,0 +1,17 @@
+-- What the server shows of itself.
+use Rattle.rld_look.specs.declared.look.Look.{Look}
+use Rattle.rld_serve.specs.declared.holdings.Rest.{Rest}
+
+-- what a look has besides the counts, what the store shows, and the build
+abbrev pub rest_of : Look → Rest
+rest_of look = record {
+  start = look.start;
+  moment = look.now;
+  recording = look.recording;
+  clock_behind = look.clock_behind;
+  archive = look.archive;
+  access_servers = look.access_servers;
+  minutes = look.minutes;
+  refusals = look.refusals;
+  sockets = look.sockets;
+}
