@@ -15,12 +15,15 @@ import time
 import history
 import served
 
-SECRET, PASSWORD = b"secret of all", b"password"
+SECRET, PASSWORD = b"secret of all of them", b"password"
 AGAIN = 0.5  # seconds after which a request is sent again
 WAIT = 60  # seconds in which a server has to begin
 # no deadline comes, but for that of a kept ask
 RESERVE = LIVE = 86_400
 SHARDS = 4
+CROWD = 32  # accounts that half of the sessions are of
+DEVICES = 2  # of an account
+HELD = 8  # sessions that an access server has at once, at most
 
 
 class Answers:
@@ -29,14 +32,14 @@ class Answers:
     def __init__(self):
         self.digests, self.met, self.accepts = array.array("q"), 0, 0
 
-    def note(self, kind, account, what, accepted):
-        """Notes an answer: what it was to, and the accept number, if it has one."""
-        self.digests.append(hash((kind, account, what, accepted)))
+    def note(self, kind, account, what, accepted, station):
+        """Notes an answer: what it was to, the accept number, if it has one, and the station, if one counts."""
+        self.digests.append(hash((kind, account, what, accepted, station)))
         self.accepts += accepted is not None
 
-    def meet(self, kind, account, what, accepted):
+    def meet(self, kind, account, what, accepted, station):
         """Goes on to the next answer where this is the one that is waited for."""
-        if self.met < len(self.digests) and self.digests[self.met] == hash((kind, account, what, accepted)):
+        if self.met < len(self.digests) and self.digests[self.met] == hash((kind, account, what, accepted, station)):
             self.met += 1
 
     def are_met(self):
@@ -45,7 +48,7 @@ class Answers:
 
 
 class AccessServer:
-    """An access server with one request under way: a session after the other, each of an account by chance."""
+    """An access server with one request under way: some sessions at once, each of an account by chance."""
 
     def __init__(self, number, chance, accounts):
         self.number, self.chance, self.accounts = number, chance, accounts
@@ -61,8 +64,15 @@ class AccessServer:
 
     def packet(self):
         """The attributes of any packet for an account, and the account."""
-        account = self.chance.randrange(self.accounts)
+        account = self.chance.randrange(self.chance.choice((min(CROWD, self.accounts), self.accounts)))
         return account, served.attribute(1, b"u%d" % account) + served.attribute(32, self.name)
+
+    def device(self, account):
+        """The attribute of one of an account's devices, or none, and the station that counts."""
+        if self.chance.randrange(2) == 0:
+            return b"", None
+        station = b"device %d" % self.chance.randrange(DEVICES)
+        return served.attribute(31, station), station if counts_stations(account) else None
 
     def next_identifier(self):
         self.identifier = (self.identifier + 1) % 256
@@ -71,7 +81,7 @@ class AccessServer:
     def asked(self, attributes):
         """An Access-Request, with the key that its move has."""
         number, authenticator = self.next_identifier(), self.chance.randbytes(16)
-        octets = served.access_request(number, SECRET, attributes, authenticator, PASSWORD)
+        octets = served.access_request(number, SECRET, attributes, authenticator, PASSWORD, signs=True)
         source = self.sockets[0].getsockname()
         return 0, octets, (socket.inet_aton(source[0]), source[1], number, authenticator)
 
@@ -79,25 +89,36 @@ class AccessServer:
         """An Accounting-Request."""
         return 1, served.accounting_request(self.next_identifier(), SECRET, status, attributes)
 
+    def tell(self, status, account, session, attributes):
+        """The request of a session's packet."""
+        device, station = self.device(account)
+        yield self.told(status, attributes + device)
+        kind, counted = ("stop", None) if status == served.STOP else ("alive", station)
+        self.answered.note(kind, account, session, None, counted)
+
     def cycles(self):
         """Requests, each of which is given its answer: sockets by their place, octets."""
+        held = []
         while True:
             account, attributes = self.packet()
-            at, octets, key = self.asked(attributes)
+            device, station = self.device(account)
+            at, octets, key = self.asked(attributes + device)
             reply = yield at, octets
             number = None
             if reply[0] == 2:
                 (mark,) = (value for kind, value in served.attributes_of(reply) if kind == 25)
                 _boot, number = struct.unpack(">QQ", mark)
-            self.answered.note("ask", account, key, number)
+            self.answered.note("ask", account, key, number, station)
             if number is None:
                 continue
             session = b"s%d-%d" % (self.number, self.sessions)
             self.sessions += 1
-            attributes += served.attribute(44, session) + served.attribute(25, mark)
-            for status in [served.START] + [served.INTERIM] * self.chance.randrange(3) + [served.STOP]:
-                yield self.told(status, attributes)
-                self.answered.note("stop" if status == served.STOP else "alive", account, session, None)
+            held.append((account, session, attributes + served.attribute(44, session) + served.attribute(25, mark)))
+            yield from self.tell(served.START, *held[-1])
+            for _ in range(self.chance.randrange(3)):
+                yield from self.tell(served.INTERIM, *self.chance.choice(held))
+            if len(held) == HELD:
+                yield from self.tell(served.STOP, *held.pop(self.chance.randrange(HELD)))
 
     def send(self, ports):
         """Sends the request that is under way."""
@@ -152,16 +173,26 @@ class Load:
         return answers
 
 
+def counts_stations(account):
+    """Whether an account counts by stations."""
+    return account % 3 > 0
+
+
 def account_file(folder, places):
-    """Writes the account file of a load, over accounts of so many places."""
+    """Writes the account file of a load, of version 3, over accounts of so many places."""
     accounts = [(f"u{number}", PASSWORD, count, 1) for number, count in enumerate(places)]
-    served.account_file(
-        os.path.join(folder, "accounts.toml"), [(served.HOST, SECRET, False)], accounts, shards=SHARDS, reserve=RESERVE,
+    path = served.account_file(
+        os.path.join(folder, "accounts.toml"), [(served.HOST, SECRET, True)], accounts, shards=SHARDS, reserve=RESERVE,
         keep=history.KEEP, live=LIVE,
     )
+    head, *tables = served.text_of(path).replace("version = 1\n", "version = 3\n").split("[[account]]\n")
+    with open(path, "w", encoding="ascii") as file:
+        file.write(head)
+        for number, table in enumerate(tables):
+            file.write(f"[[account]]\n{table}station = {str(counts_stations(number)).lower()}\n")
 
 
-Checked = collections.namedtuple("Checked", "answers moves sessions")
+Checked = collections.namedtuple("Checked", "answers moves sessions yielded")
 
 
 def lines_of(replay):
@@ -176,22 +207,24 @@ def lines_of(replay):
 
 def check(servers, state, places):
     """That each answer is in the folder, in its place and with its decision, and that `radlimitd lines` prints each
-    move with the decision of the books: how many answers and moves there are, and the sessions that have a place."""
+    move with the decision of the books: how many answers and moves there are, the sessions that have a place, and the
+    asks that a link of their station yielded to."""
     replay = history.Replay(state, places, SHARDS)
     answered = {server.name: server.answered for server in servers}
     accepts = 0
     for line, found in lines_of(replay):
         if found is None or line is None or line != history.line_of(*found, served.HOST) + "\n":
             sys.exit(f"a line is:\n{line}and not of:\n{found}")
-        kind, _moment, account, server, what, _number = found[2]
+        kind, _moment, account, server, what, _number, station = found[2]
         if server is not None:
             accepted = int(found[3].split()[1]) if found[3].startswith("accept") else None
             accepts += accepted is not None
-            answered[server[2]].meet(kind, account, what, accepted)
+            answered[server[2]].meet(kind, account, what, accepted, station)
     for server in servers:
         if not server.answered.are_met():
             sys.exit(f"an answer to {server.name} is not in the logs, or not in its place")
     answers = sum(len(server.answered.digests) for server in servers)
     if not answers or not accepts or accepts == replay.count:
         sys.exit("nothing was answered, or nothing but accepts")
-    return Checked(answers, replay.count, replay.books.sessions())
+    yielded = sum(book.yielded for book in replay.books.books)
+    return Checked(answers, replay.count, replay.books.sessions(), yielded)

@@ -7,7 +7,7 @@ import history
 
 def places(links, ports):
     """The places of links: one for each without a bundle, and of a bundle one for as many links as there are ports."""
-    members = [(server, bundle) for server, _holder, bundle, _touched in links if bundle is not None]
+    members = [(server, bundle) for server, _holder, bundle, *_ in links if bundle is not None]
     return len(links) - len(members) + sum(-(-members.count(bundle) // ports) for bundle in set(members))
 
 
@@ -27,7 +27,8 @@ def is_bound(link):
 
 class Book:
     """A book: its clock, its next accept number, its over count, its links, kept asks and kept stops. An access server
-    is its client and a name, if it has one. A client is whatever tells it from the others, in octets its number."""
+    is its client and a name, if it has one. A client is whatever tells it from the others, in octets its number. A link
+    is its access server, its accept number or session, its bundle, its last touch, its opening and its station."""
 
     def __init__(self, clock=0, number=0, over=0, links=(), asks=(), stops=()):
         self.clock, self.number, self.over = clock, number, over
@@ -52,14 +53,15 @@ class Book:
         lists = [(link_octets, self.links), (ask_octets, self.asks), (stop_octets, self.stops)]
         return numbers + b"".join(state.listed([octets(*value) for value in values]) for octets, values in lists)
 
-    # What events do, as long as no deadline comes: each link is live, and each kept ask and stop young enough.
+    # What events do, as long as no deadline comes and none has a station: each link is live, and each kept ask and stop
+    # young enough.
 
     def ask(self, server, key, limit, ports):
         """The accept number of an ask with this key, or None where it is rejected."""
         for _server, kept, decision, _moment, _swept in reversed(self.asks):
             if kept == key:
                 return decision
-        decision, link = None, (server, self.number, None, 0)
+        decision, link = None, (server, self.number, None, 0, 0, None)
         if places([*self.links, link], ports) <= limit:
             decision, self.number = self.number, self.number + 1
             self.links.append(link)
@@ -69,15 +71,15 @@ class Book:
     def alive(self, server, session, bundle, number, limit, ports):
         """A Start or an Interim-Update, with the accept number of its Class, if it has one."""
         reserved = []
-        for at, (its_server, holder, its_bundle, _touched) in enumerate(self.links):
+        for at, (its_server, holder, its_bundle, _touched, *rest) in enumerate(self.links):
             if (its_server, holder) == (server, session):
-                self.links[at] = server, session, its_bundle or bundle, 0
+                self.links[at] = server, session, its_bundle or bundle, 0, *rest
                 return
             if its_server == server and not isinstance(holder, bytes) and number in (None, holder):
                 reserved.append((holder, at))
         if any(stop[:2] == (server, session) for stop in self.stops):
             return
-        link = server, session, bundle, 0
+        link = server, session, bundle, 0, 0, None
         if reserved:
             self.links[min(reserved)[1]] = link
         elif places([*self.links, link], ports) <= limit:
@@ -105,10 +107,14 @@ def server_octets(server):
     return state.number(client) + b"\x02" if name is None else state.nas(client, name)
 
 
-def link_octets(server, holder, bundle, touched):
-    """A link: an accept number or a session has it."""
-    has_it = b"\x01" + state.string(holder) if isinstance(holder, bytes) else b"\x00" + state.number(holder)
-    return server_octets(server) + has_it + state.option(bundle) + state.number(touched)
+def link_octets(server, holder, bundle, touched, opened, station):
+    """A link: an accept number or a session has it. Where it has an opening or a station, the tag is another."""
+    has_it = state.string(holder) if isinstance(holder, bytes) else state.number(holder)
+    is_known = opened > 0 or station is not None
+    if is_known:
+        has_it += state.number(opened) + state.option(station)
+    tag = bytes([2 * is_known + isinstance(holder, bytes)])
+    return server_octets(server) + tag + has_it + state.option(bundle) + state.number(touched)
 
 
 def ask_octets(server, key, decision, moment, swept):

@@ -495,7 +495,7 @@ class Changing:
 
 def line_of(link):
     """The line of `sessions` for a link, but for its account and its age."""
-    (address, name), holder, bundle, _touched = link
+    (address, name), holder, bundle, *_ = link
     words = [address, "unnamed" if name is None else f"nas={history.escaped(name)}"]
     words += [history.escaped(holder), "live"] if isinstance(holder, bytes) else ["\\-", "reserved"]
     return " ".join(words + ([f"bundle={history.escaped(bundle)}"] if bundle else []))

@@ -38,9 +38,9 @@ def table(accounts, clients, boot, shards=1, times=(60, 900, 900, 3600, 10)):
     return number(boot) + number(shards) + listed(rows) + listed(addresses)
 
 
-def header(era, generation, octets, lines=0):
-    """The header of a generation of an era whose table has these octets."""
-    return b"\x01\x01" + number(era) + number(generation) + hashlib.md5(octets).digest() + number(lines)
+def header(era, generation, octets, lines=0, form=2):
+    """The header of a generation of an era whose table has these octets, in this version of the format."""
+    return bytes([form, 1]) + number(era) + number(generation) + hashlib.md5(octets).digest() + number(lines)
 
 
 def new_books(accounts):
@@ -53,21 +53,33 @@ def nas(client, identifier):
     return number(client) + b"\x00" + string(identifier)
 
 
-def ask(moment, account, server, source, port, identifier, authenticator):
+def stationed(tag, octets, station):
+    """A move with this tag and these octets; of a station it has the tag after 6 and the station behind."""
+    return bytes([tag]) + octets if station is None else bytes([tag + 6]) + octets + string(station)
+
+
+def ask(moment, account, server, source, port, identifier, authenticator, station=None):
     """An Access-Request with the right password."""
     key = bytes(map(int, source.split("."))) + port.to_bytes(2, "big") + bytes([identifier]) + authenticator
-    return b"\x01" + number(moment) + number(account) + key + server
+    return stationed(1, number(moment) + number(account) + key + server, station)
 
 
-def alive(moment, account, server, session, bundle=None, accept=None):
+def alive(moment, account, server, session, bundle=None, accept=None, station=None):
     """A Start or an Interim-Update."""
     reserved = b"\x00" if accept is None else b"\x01" + number(accept)
-    return b"\x02" + number(moment) + number(account) + server + string(session) + option(bundle) + reserved
+    octets = number(moment) + number(account) + server + string(session) + option(bundle) + reserved
+    return stationed(2, octets, station)
 
 
 def stop(moment, account, server, session):
     """A Stop."""
     return b"\x03" + number(moment) + number(account) + server + string(session)
+
+
+def restart(moment, server, delay=0):
+    """An access server restarts, and says so this many seconds late."""
+    octets = number(moment) + server
+    return b"\x09" + octets + number(delay) if delay else b"\x04" + octets
 
 
 def tick(moment):

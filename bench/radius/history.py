@@ -8,12 +8,15 @@ import re
 import socket
 import string
 
-FORMAT, RULE = 1, 1
+FORMATS, RULE = (1, 2), 1  # what a server reads; it writes the latter
 HEAD = 20  # octets of a frame before its payload
 KEEP = 60  # seconds
 KEPT_ASKS, KEPT_STOPS = 8, 16
 LONGEST_TIME = 86_400  # seconds
 LOG = re.compile(r"log-([1-9]\d*)-([1-9]\d*)")
+
+# an accept number or a session holds it
+Link = collections.namedtuple("Link", "holder station opened touched")
 
 
 class Fault(ValueError):
@@ -35,7 +38,7 @@ class Reader:
     def __init__(self, octets, accounts=1 << 64, clients=1 << 64):
         self.octets, self.at = octets, 0
         self.accounts, self.clients = accounts, clients
-        self.bundles = 0
+        self.bundles = self.late = self.format = 0
 
     def take(self, count):
         """So many octets."""
@@ -110,41 +113,52 @@ class Reader:
         return found
 
     def move(self):
-        """A move: its kind, its moment, its account, its access server, its key or session, and its accept number."""
+        """A move: its kind, its moment, its account, its access server, its key or session, its accept number and its
+        station. Those of a station, and a restart that was told late, have tags of their own."""
         begin, tag = self.at, self.take(1)[0]
-        if not 1 <= tag <= 6:
+        if not 1 <= tag <= 9:
             raise Fault(begin, "an unknown tag")
         moment = self.number()
         match tag:
-            case 1:
-                account, key = self.account(), self.key()
-                return "ask", moment, account, self.server(), key, None
-            case 2:
+            case 1 | 7:
+                account, key, server = self.account(), self.key(), self.server()
+                return "ask", moment, account, server, key, None, self.string() if tag == 7 else None
+            case 2 | 8:
                 account, server, session = self.account(), self.server(), self.string()
                 self.bundle()
-                return "alive", moment, account, server, session, self.option(self.number)
+                number = self.option(self.number)
+                return "alive", moment, account, server, session, number, self.string() if tag == 8 else None
             case 3:
                 account, server = self.account(), self.server()
-                return "stop", moment, account, server, self.string(), None
-            case 4:
-                return "restart", moment, None, self.server(), None, None
+                return "stop", moment, account, server, self.string(), None, None
+            case 4 | 9:
+                server = self.server()
+                if tag == 9:
+                    self.within(1, (1 << 64) - 1)
+                    self.late += 1
+                return "restart", moment, None, server, None, None, None
             case 5:
-                return "tick", moment, None, None, None, None
+                return "tick", moment, None, None, None, None, None
         server, _status = self.server(), self.within(0, (1 << 32) - 1)
         _name = self.string()
-        return "stray", moment, None, server, self.string(), None
+        return "stray", moment, None, server, self.string(), None, None
 
     def moves(self):
         """The moves of a batch."""
         return self.whole(lambda: self.list(self.move))
 
     def link(self):
-        """A link: what reserves it, or its session."""
+        """A link. One of which is known when it opened, or a station, has tags of its own, and may not be without
+        both."""
         self.server()
-        what = self.string() if self.tag(2) else self.number()
+        tag, opened, station = self.tag(4), 0, None
+        holder = self.string() if tag % 2 else self.number()
+        if tag >= 2:
+            begin, opened, station = self.at, self.number(), self.option(self.string)
+            if opened == 0 and station is None:
+                raise Fault(begin, "a number out of range")
         self.bundle()
-        self.number()
-        return what
+        return Link(holder, station, opened, self.number())
 
     def ask(self):
         """A kept ask: its key and its decision."""
@@ -174,7 +188,7 @@ class Reader:
 
     def header(self):
         """Era, generation, digest of the era's table, and lines before."""
-        self.within(FORMAT, FORMAT, "another version of the format")
+        self.format = self.within(*FORMATS, "another version of the format")
         self.within(RULE, RULE, "another version of the session rule")
         found = self.number(), self.number(), self.take(16)
         return *found, self.whole(self.number)
@@ -212,46 +226,63 @@ class Book:
     def __init__(self, places):
         self.places, self.links, self.number, self.over, self.clock = places, [], 0, 0, 0
         self.asks, self.stops = collections.deque(maxlen=KEPT_ASKS), []
+        self.yielded = 0  # links that yielded to their station
 
-    def ask(self, key):
+    def ask(self, key, station):
         """The accept number of an ask, or None where it is rejected."""
         for kept, decision, moment in reversed(self.asks):
             if kept == key and self.clock - moment < KEEP:
                 return decision
+        self.make_way(station)
         decision = None
         if len(self.links) < self.places:
             decision, self.number = self.number, self.number + 1
-            self.links.append(decision)
+            self.links.append(Link(decision, station, self.clock, self.clock))
         self.asks.append((key, decision, self.clock))
         return decision
 
-    def alive(self, session, number):
+    def make_way(self, station):
+        """Has the link of a station yield to a fresh ask, where that fits then. Links are in the order in which they
+        opened."""
+        links = [link for link in self.links if station is not None and link.station == station]
+        if links and len(self.links) - 1 < self.places:
+            self.links.remove(min(links, key=lambda link: link.touched))
+            self.yielded += 1
+
+    def alive(self, session, number, station):
         """A Start or an Interim-Update."""
-        if session in self.links or session in self.stops:
+        holders = [link.holder for link in self.links]
+        if session in holders:
+            self.touch(holders.index(session), session, station)
+        elif session in self.stops:
             return
-        if number is not None and number in self.links:
-            self.links[self.links.index(number)] = session
+        elif number in holders:
+            self.touch(holders.index(number), session, station)
         elif len(self.links) < self.places:
-            self.links.append(session)
+            self.links.append(Link(session, station, self.clock, self.clock))
         else:
             self.over += 1
 
+    def touch(self, at, session, station):
+        """A session takes or renews a link."""
+        _holder, its_station, opened, _touched = self.links[at]
+        self.links[at] = Link(session, its_station if station is None else station, opened, self.clock)
+
     def stop(self, session):
         """A Stop."""
-        if session in self.links:
-            self.links.remove(session)
+        self.links = [link for link in self.links if link.holder != session]
         self.stops = [*self.stops, session][-KEPT_STOPS:]
 
     def step(self, move):
         """The decision of a move, as `radlimitd lines` prints it."""
-        kind, moment, _account, _server, what, number = move
+        kind, moment, _account, _server, what, number, station = move
         self.clock = max(self.clock, moment)
         decision = "done"
         if kind == "ask":
-            accepted = self.ask(what)
+            accepted = self.ask(what, station)
             decision = "reject limit" if accepted is None else f"accept {accepted}"
         elif kind == "alive":
-            self.alive(what, number)
+            self.alive(what, number, station)
         elif kind == "stop":
             self.stop(what)
         if len(self.links) > self.places:
@@ -260,12 +291,12 @@ class Book:
 
     def sessions(self):
         """How many sessions have a link."""
-        return sum(isinstance(link, bytes) for link in self.links)
+        return sum(isinstance(link.holder, bytes) for link in self.links)
 
     def is_saved(self, found):
         """Whether a book of a snapshot has the links, the accept numbers and the over count of this one."""
         links, number, over, _asks, _stops = found
-        return (sorted(map(str, links)), number, over) == (sorted(map(str, self.links)), self.number, self.over)
+        return (links, number, over) == (self.links, self.number, self.over)
 
 
 class Books:
@@ -380,7 +411,7 @@ def escaped(octets):
 
 def line_of(name, number, move, decision, host):
     """The line of a move that `radlimitd lines` prints, of an account u with its number and of the client at host."""
-    kind, moment, account, server, what, accepted = move
+    kind, moment, account, server, what, accepted, station = move
     words = [escaped(name.encode()), str(number), str(moment), kind]
     if account is not None:
         words += [f"account=u{account}", f"client={host}", f"nas={escaped(server[2])}"]
@@ -392,6 +423,8 @@ def line_of(name, number, move, decision, host):
         words += [f"session={escaped(what)}"]
     if accepted is not None:
         words += [f"class={accepted}"]
+    if station is not None:
+        words += [f"station={escaped(station)}"]
     return " ".join([*words, "->", decision])
 
 
@@ -417,5 +450,5 @@ class Replay:
                 for move in reader.moves():
                     self.count += 1
                     yield path, self.count, move, self.books.step(move)
-                if reader.bundles:
-                    raise ValueError("a bundle, of which no packet had one")
+                if reader.bundles or reader.late:
+                    raise ValueError("a bundle or a delay, of which no packet had one")

@@ -2,6 +2,7 @@
 archive has, which may have a size. Each looks at the lines of standard error, at `status`, at its JSON, at the metrics and
 at `/health`."""
 
+import contextlib
 import http.client
 import json
 import os
@@ -134,27 +135,36 @@ CLOCK = [True, ([0, 0, 0], IS_WELL), True, ([True] * 3, IS_BACK), 1, True, True,
 
 
 def of_archive(archived):
-    """The logs of an archive, and their octets."""
-    logs = sorted(os.listdir(archived)) if os.path.exists(archived) else []
-    return logs, sum(os.path.getsize(os.path.join(archived, name)) for name in logs)
-
-
-def archive(folder):
-    """What an archive has that may have a megabyte, as the folder and the server tell, after each of some starts. A log has
-    HALF octets once it was put away."""
-    archived, found = os.path.join(folder, "state", "archive"), []
-    server = Shown(folder, "archive_megabytes = 1")
-    for number in range(1, 6):
-        server.kill()
-        server.start()
-        until = time.monotonic() + SECONDS
-        while not server.tells(*(came := of_archive(archived))) and time.monotonic() < until:
-            time.sleep(0.2)
-        found.append((came[0], came[1] <= 1_000_000, server.tells(*came)))
-        os.truncate(os.path.join(archived, f"log-1-{number}"), HALF)
-    server.kill()
-    return found
+    """The logs of an archive, and their octets. The server may take one away while they are listed."""
+    logs = {}
+    for name in sorted(os.listdir(archived)) if os.path.exists(archived) else []:
+        with contextlib.suppress(FileNotFoundError):
+            logs[name] = os.path.getsize(os.path.join(archived, name))
+    return list(logs), sum(logs.values())
 
 
 # the oldest goes for the second of HALF octets, and so on
 ARCHIVE = [([f"log-1-{at}" for at in range(max(1, number - 1), number + 1)], True, True) for number in range(1, 6)]
+
+
+def shown_of_archive(server, archived):
+    """What logs an archive has, whether they are within a megabyte, and whether the server tells of them."""
+    logs, octets = of_archive(archived)
+    return logs, octets <= 1_000_000, server.tells(logs, octets)
+
+
+def archive(folder):
+    """What an archive has that may have a megabyte, as the folder and the server tell, after each of some starts. A log has
+    HALF octets once it was put away. A start puts logs away while it serves, so what is wanted is waited for."""
+    archived, found = os.path.join(folder, "state", "archive"), []
+    server = Shown(folder, "archive_megabytes = 1")
+    for number, wanted in enumerate(ARCHIVE, 1):
+        server.kill()
+        server.start()
+        until = time.monotonic() + SECONDS
+        while (shown := shown_of_archive(server, archived)) != wanted and time.monotonic() < until:
+            time.sleep(0.2)
+        found.append(shown)
+        os.truncate(os.path.join(archived, f"log-1-{number}"), HALF)
+    server.kill()
+    return found

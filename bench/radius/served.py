@@ -19,7 +19,7 @@ import time
 
 TOP = os.path.dirname(os.path.dirname(os.path.dirname(os.path.abspath(__file__))))
 sys.path.insert(0, TOP)
-from gate.programs import path_of  # noqa: E402
+from gate.programs import in_time, path_of, patience  # noqa: E402, F401
 
 PROGRAM = path_of("rsl_app")
 DAEMON = path_of("radlimitd")
@@ -224,7 +224,7 @@ def greeting(process, seconds):
     return process.stderr.readline().decode()
 
 
-def asked(*words, seconds=60):
+def asked(*words, seconds=patience(60)):
     """What a `radlimitd` that is asked something prints, and what it says: on standard output and on standard error, and
     its status."""
     run = subprocess.run([DAEMON, *words], capture_output=True, timeout=seconds, check=False)

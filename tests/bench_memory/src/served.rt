@@ -218,7 +218,7 @@ impl<L0: Tally, L1: Tally, L2: Tally, L3: Tally> Served<L0, L1, L2, L3> {
             settled => writeln!(page.text, "settled: {settled:?}")?,
         }
         match service.close(alloc, passes, segments) {
-            Ok(closed) => tell_journals(page, config, &closed.segments, &more),
+            Ok(closed) => tell_journals(page, config, closed.segments(), &more),
             Err(CloseFault::NoMemory) => Err(Stop::NoMemory),
             Err(fault) => Ok(writeln!(page.text, "closed: {fault:?}")?),
         }

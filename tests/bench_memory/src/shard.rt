@@ -81,7 +81,7 @@ fn step<R: Print>(page: &mut Page<R>, shard: &mut Shard, event: &Event) -> Resul
 pub(crate) fn move_of(account: u32, event: Event) -> Move {
     let Event { moment, act } = event;
     match act {
-        Act::Sweep { nas } => Move::Sweep { moment, nas },
+        Act::Sweep { nas, delay } => Move::Sweep { moment, nas, delay },
         Act::Tick => Move::Tick { moment },
         act => Move::Own {
             account,

@@ -6,7 +6,7 @@ use crate::page::Page;
 use crate::shard::move_of;
 use crate::stop::Stop;
 use rld_log::MemoryLog;
-use rld_spelling::Header;
+use rld_spelling::{FORMAT_VERSION, Header};
 use rld_store::{Opened, Refused, Store, read_frames};
 use rsl_accounts::Config;
 use rsl_event::{Act, Event, Note};
@@ -40,7 +40,7 @@ pub(crate) fn tell<R: Print>(page: &mut Page<R>, given: &Given) -> Result<(), St
 fn batch_of(alloc: Global, account: u32, events: &[Event]) -> Result<Vec<Move>, Stop> {
     let mut batch = Vec::new(alloc);
     for event in events {
-        if let Act::Sweep { nas } = &event.act {
+        if let Act::Sweep { nas, .. } = &event.act {
             let note = Note {
                 nas: nas.try_copy(alloc)?,
                 status: 1,
@@ -63,6 +63,7 @@ fn rows_of(alloc: Global, store: &Store<MemoryLog>) -> Result<Vec<Row>, Stop> {
 /// The header of a generation of the first era.
 fn header(generation: u64) -> Header {
     Header {
+        format: FORMAT_VERSION,
         era: 1,
         generation,
         digest: [0; 16],

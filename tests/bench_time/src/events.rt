@@ -21,6 +21,18 @@ pub(crate) enum Work {
     Changes,
     /// An ask, the Start that takes the link that it reserved, and the Stop of that.
     Takes,
+    /// An Interim-Update of each link, in the order in which they opened. Each has a station of its own.
+    Stationed,
+    /// An ask of one station, to which the link of the ask before yields. The other links have stations
+    /// of their own.
+    Returns,
+    /// An ask of a station that no link has. The links have stations of their own.
+    Misses,
+    /// An ask of the one station that all links have. Where the places are full of whole bundles, no
+    /// link yields to it.
+    Shared,
+    /// An ask without a station.
+    Asks,
 }
 
 impl Work {
@@ -31,6 +43,20 @@ impl Work {
             "strides" => Some(Work::Strides),
             "changes" => Some(Work::Changes),
             "takes" => Some(Work::Takes),
+            "stationed" => Some(Work::Stationed),
+            "returns" => Some(Work::Returns),
+            "misses" => Some(Work::Misses),
+            "shared" => Some(Work::Shared),
+            "asks" => Some(Work::Asks),
+            _ => None,
+        }
+    }
+
+    /// The station, by its number, of a link that is open before it, if it has one.
+    pub(crate) fn station_of(self, link: u64) -> Option<u64> {
+        match self {
+            Work::Stationed | Work::Returns | Work::Misses => Some(link),
+            Work::Shared => Some(0),
             _ => None,
         }
     }
@@ -67,34 +93,68 @@ impl Size {
 
     /// The alive of a session that has a link: links that follow one another share a bundle.
     fn alive(&self, alloc: Global, link: u64, session: u64) -> Result<Act, NoMemory> {
+        self.alive_of(alloc, link, session, None)
+    }
+
+    /// The same of a station by its number, if it has one.
+    fn alive_of(
+        &self,
+        alloc: Global,
+        link: u64,
+        session: u64,
+        station: Option<u64>,
+    ) -> Result<Act, NoMemory> {
         Ok(Act::Alive {
             nas: self.nas(alloc, link)?,
             session: octets_of(alloc, session)?,
             bundle: Some(octets_of(alloc, link / self.ports.max(1))?),
             class: None,
+            station: station_of(alloc, station)?,
         })
     }
 
-    /// The Start of a link by its number, at the moment 0.
-    pub(crate) fn start(&self, alloc: Global, link: u64) -> Result<Event, NoMemory> {
+    /// The Start of a link by its number, of a station by its number, if it has one, at the moment 0.
+    pub(crate) fn start(
+        &self,
+        alloc: Global,
+        link: u64,
+        station: Option<u64>,
+    ) -> Result<Event, NoMemory> {
         Ok(Event {
             moment: 0,
-            act: self.alive(alloc, link, link)?,
+            act: self.alive_of(alloc, link, link, station)?,
         })
     }
 
-    /// The event of a turn of a work, a second after the one before; of `Takes` a hundred of them
-    /// come in a second, so that no other link lapses.
+    /// The event of a turn of a work, a second after the one before; of `Takes` and of asks alone a
+    /// hundred of them come in a second, so that no other link lapses.
     pub(crate) fn event(&self, alloc: Global, work: Work, turn: u64) -> Result<Event, NoMemory> {
         let links = self.links.max(1);
-        let strided = turn.wrapping_mul(STRIDE) % links;
+        let (link, strided) = (turn % links, turn.wrapping_mul(STRIDE) % links);
         let (moment, act) = match work {
-            Work::Interims => (turn, self.alive(alloc, turn % links, turn % links)?),
+            Work::Interims => (turn, self.alive(alloc, link, link)?),
+            Work::Stationed => (turn, self.alive_of(alloc, link, link, Some(link))?),
             Work::Strides => (turn, self.alive(alloc, strided, strided)?),
             Work::Changes => (turn, self.change(alloc, turn)?),
             Work::Takes => (turn / 100, self.take(alloc, turn)?),
+            Work::Returns => (turn / 100, self.ask(alloc, turn, Some(self.links))?),
+            Work::Misses => (
+                turn / 100,
+                self.ask(alloc, turn, Some(self.links.wrapping_add(turn)))?,
+            ),
+            Work::Shared => (turn / 100, self.ask(alloc, turn, Some(0))?),
+            Work::Asks => (turn / 100, self.ask(alloc, turn, None)?),
         };
         Ok(Event { moment, act })
+    }
+
+    /// The ask of this number, of a station by its number, if it has one.
+    fn ask(&self, alloc: Global, number: u64, station: Option<u64>) -> Result<Act, NoMemory> {
+        Ok(Act::Ask {
+            key: key_of(number),
+            nas: self.nas(alloc, 0)?,
+            station: station_of(alloc, station)?,
+        })
     }
 
     /// The act of a turn of `Changes`.
@@ -116,11 +176,10 @@ impl Size {
     /// sessions past those of the other links.
     fn take(&self, alloc: Global, turn: u64) -> Result<Act, NoMemory> {
         let number = turn / 3;
-        let nas = self.nas(alloc, 0)?;
         if turn % 3 == 0 {
-            let key = key_of(number);
-            return Ok(Act::Ask { key, nas });
+            return self.ask(alloc, number, None);
         }
+        let nas = self.nas(alloc, 0)?;
         let session = octets_of(alloc, self.links.wrapping_add(number))?;
         Ok(if turn % 3 == 1 {
             Act::Alive {
@@ -128,6 +187,7 @@ impl Size {
                 session,
                 bundle: None,
                 class: Some(number),
+                station: None,
             }
         } else {
             Act::Stop { nas, session }
@@ -143,23 +203,30 @@ pub(crate) fn tick_of(turn: u64) -> Event {
     }
 }
 
-/// One of a list of events of every kind, of 3,000 sessions at 2,000 access servers, 10 a second.
+/// One of a list of events of every kind, of 3,000 sessions at 2,000 access servers, 10 a second, of which
+/// some are of one of 500 stations.
 pub(crate) fn mixed(alloc: Global, turn: u64) -> Result<Event, NoMemory> {
     let nas = nas_of(alloc, turn % 2_000)?;
     let session = octets_of(alloc, turn % 3_000)?;
+    let station = station_of(alloc, (turn % 3 == 0).then_some(turn % 500))?;
     let act = match turn % 16 {
         0 => Act::Tick,
-        1 => Act::Sweep { nas },
+        1 => Act::Sweep {
+            nas,
+            delay: turn / 16 % 4,
+        },
         2 | 3 | 4 => Act::Stop { nas, session },
         5 | 6 | 7 | 8 => Act::Ask {
             key: key_of(turn),
             nas,
+            station,
         },
         kind => Act::Alive {
             nas,
             session,
             bundle: None,
             class: if kind == 9 { Some(turn / 4) } else { None },
+            station,
         },
     };
     Ok(Event {
@@ -186,6 +253,16 @@ fn nas_of(alloc: Global, number: u64) -> Result<Nas, NoMemory> {
         client: 0,
         name: NasName::Identifier(octets_of(alloc, number)?),
     })
+}
+
+/// A station by its number, of the length of one as RFC 3580 section 3.21 writes it.
+fn station_of(alloc: Global, number: Option<u64>) -> Result<Option<Octets>, NoMemory> {
+    let Some(number) = number else {
+        return Ok(None);
+    };
+    let mut station = [b'-'; 17];
+    station[..8].copy_from_slice(&number.to_be_bytes());
+    Ok(Some(Octets::from_slice(alloc, &station)?))
 }
 
 /// Eight octets by their number.

@@ -9,6 +9,10 @@
 //! | `strides` | the same, in another order than that in which the links opened |
 //! | `changes` | in that order, a Stop of a link, and in the next turn the Start of another in its bundle |
 //! | `takes` | an ask, then the Start that takes the link that it reserved, then the Stop of that |
+//! | `stationed` | as `interims`, where each link has a station of its own |
+//! | `returns` | asks of one station, to each of which the link of the one before yields; the other links have stations of their own |
+//! | `misses` | asks of stations that no link has; the links have stations of their own |
+//! | `asks` | asks without a station |
 //! | `making-` and one of these | makes its events, and hands them to no book |
 //! | `ticks` | ticks, of which none lets a link lapse |
 //! | `mixed` | events of every kind, of more sessions and access servers than a book has room for |

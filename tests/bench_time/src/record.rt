@@ -52,6 +52,7 @@ fn act_of(alloc: Global, turn: u64) -> Result<Act, NoMemory> {
         return Ok(Act::Ask {
             key: key_of(turn / 4),
             nas,
+            station: None,
         });
     }
     let session = Octets::from_slice(alloc, &(turn / 4).to_be_bytes())?;
@@ -63,6 +64,7 @@ fn act_of(alloc: Global, turn: u64) -> Result<Act, NoMemory> {
             session,
             bundle: None,
             class: None,
+            station: None,
         }
     })
 }

@@ -4,6 +4,9 @@ use rsl_book::Book;
 use rsl_wire::NoMemory;
 use std::alloc::Global;
 
+/// What stands before the name of a work whose events are made, and handed to no book.
+const MAKING: &str = "making-";
+
 /// What the book shows once it has done some work `times` times. There is none where the work has
 /// no such name, or the account is no account.
 pub(crate) fn shown_after(
@@ -18,18 +21,21 @@ pub(crate) fn shown_after(
     }
     let mut book = Book::new(alloc, rules)?;
     for number in 0..size.links {
-        let _ = book.apply(size.start(alloc, number)?);
+        let station = match named(work) {
+            Some(work) => work.station_of(number),
+            None => None,
+        };
+        let _ = book.apply(size.start(alloc, number, station)?);
     }
     match work {
         "ticks" => pass(&mut book, times),
         "mixed" => mix(alloc, &mut book, times)?,
         "books" => make_books(alloc, rules, times)?,
         name => {
-            let made = name.strip_prefix("making-");
-            let Some(work) = Work::named(made.unwrap_or(name)) else {
+            let Some(work) = named(name) else {
                 return Ok(None);
             };
-            if made.is_some() {
+            if name.starts_with(MAKING) {
                 make(alloc, size, work, times)?;
             } else {
                 turn(alloc, &mut book, size, work, times)?;
@@ -37,6 +43,11 @@ pub(crate) fn shown_after(
         }
     }
     Ok(Some(shown(alloc, &book)?))
+}
+
+/// The work of a name, which may be made alone.
+fn named(name: &str) -> Option<Work> {
+    Work::named(name.strip_prefix(MAKING).unwrap_or(name))
 }
 
 /// What a book shows of itself.

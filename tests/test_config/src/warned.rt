@@ -299,6 +299,10 @@ fn an_operator_is_told_the_first_key_that_is_passed_over(rt: HostRuntime) -> Res
           client \"sigend\"
         of an account | [[client]] | [[account]] | secret = 's' | account \"secret\"
         what version 3 alone follows | [[account]] | name = 'a' | disabled = false | account \"disabled\"
+        stations and delays, by the alphabet | shards = 1 | station = true | delay_time = true | \"delay_time\"
+        stations of all accounts | shards = 1 | station = true | [[account]] | name = 'a' | \"station\"
+        stations of an account | [[account]] | name = 'a' | station = true | account \"station\"
+        delays | delay_time = true | [[account]] | name = 'a' | \"delay_time\"
         a port for Disconnect-Requests | [[client]] | secret = 's' | disconnect = { port = 3799, x = 1 } | \
           client \"disconnect\"
         disabled stands elsewhere | [[client]] | disabled = true | client \"disabled\"

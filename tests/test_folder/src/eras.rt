@@ -15,7 +15,7 @@ const FILE: &str = "070301046e656d6f02013cfd0384fd0384fd0e100a010a000001";
 fn file_with(rt: &HostRuntime, word: &str, other: &str) -> io::Result<String> {
     let text = "version = 2\nshards = 3\nreserve_secs = 60\nlive_secs = 900\ngrace_secs = 900\n\
 closed_secs = 3600\nkeep_secs = 10\n\
-[[client]]\naddress = \"10.0.0.1\"\nsecret = \"xyzzy5461\"\n\
+[[client]]\naddress = \"10.0.0.1\"\nsecret = \"xyzzy5461xyzzy5461\"\n\
 [[account]]\nname = \"nemo\"\npassword = \"arctangent\"\nplaces = 2\nports = 1\n";
     Ok(text.replace(rt.alloc(), word, other)?)
 }
@@ -25,6 +25,8 @@ pub fn say_eras(rt: &HostRuntime) -> io::Result<()> {
     say_era(rt, "the file itself", "", "")?;
     say_era(rt, "another password", "arctangent", "arcsine")?;
     say_era(rt, "another secret", "xyzzy5461", "abracadabra")?;
+    let stationed = "version = 3\nstation = true\ndelay_time = true";
+    say_era(rt, "stations and delays", "version = 2", stationed)?;
     let asked = "keep_secs = 10\ninterim_secs = 300";
     say_era(rt, "an interval", "keep_secs = 10", asked)?;
     let asked = "ports = 1\ninterim_secs = 60";

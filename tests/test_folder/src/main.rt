@@ -8,7 +8,7 @@ mod sizes;
 mod tables;
 
 use eras::say_eras;
-use rld_folder::{Folder, FolderFault, Generation, newest_generation};
+use rld_folder::{Folder, FolderFault, Generation, Synced, newest_generation};
 use rld_log::{Log, LogFault};
 use sizes::say_sizes;
 use std::fs::{self, Permissions};
@@ -124,23 +124,34 @@ fn removes_tables(rt: &HostRuntime) -> io::Result<()> {
         Err(fault) => return println!(rt; "the folder: {fault}"),
     };
     say(rt, "era 1", folder.write_era(rt, rt.alloc(), 1, b"names"))?;
+    let newest = match newest_synced(rt, &folder) {
+        Ok(newest) => newest,
+        Err(fault) => return println!(rt; "the newest log: {fault}"),
+    };
     say(
         rt,
         "no table removed",
-        folder.remove_eras(rt, rt.alloc(), &[]),
+        folder.remove_eras(rt, rt.alloc(), &[], &newest),
     )?;
     say(
         rt,
         "era 1 removed",
-        folder.remove_eras(rt, rt.alloc(), &[1]),
+        folder.remove_eras(rt, rt.alloc(), &[1], &newest),
     )?;
     say(rt, "era 1", folder.read_era(rt, rt.alloc(), 1))?;
     say(
         rt,
         "eras 7 and 0 removed",
-        folder.remove_eras(rt, rt.alloc(), &[7, 0]),
+        folder.remove_eras(rt, rt.alloc(), &[7, 0], &newest),
     )?;
     say(rt, "era 0", folder.read_era(rt, rt.alloc(), 0))
+}
+
+/// Makes the log of a generation of era 8, and syncs it.
+fn newest_synced(rt: &HostRuntime, folder: &Folder) -> Result<Synced, FolderFault> {
+    let generation = Generation { era: 8, number: 1 };
+    let _made = folder.create_log(rt, rt.alloc(), generation)?;
+    folder.sync_log(rt, rt.alloc(), generation)
 }
 
 /// Writes six octets to a log that is empty, and counts what a read gives.

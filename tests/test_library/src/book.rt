@@ -56,7 +56,7 @@ fn told<R: AllocGlobal>(
 fn call(book: &mut Book, event: Event) -> Decision {
     let Event { moment, act } = event;
     match act {
-        Act::Sweep { nas } => book.sweep(moment, &nas),
+        Act::Sweep { nas, delay } => book.sweep(moment, &nas, delay),
         Act::Tick => book.tick(moment),
         act => return book.apply(Event { moment, act }),
     }
@@ -124,6 +124,16 @@ fn a_book_keeps_few_asks_and_stops(rt: HostRuntime) -> Result<(), Fail> {
 #[test]
 fn a_stale_link_yields_its_place(rt: HostRuntime) -> Result<(), Fail> {
     check(&rt, YIELDED)
+}
+
+#[test]
+fn a_link_yields_its_place_to_its_station(rt: HostRuntime) -> Result<(), Fail> {
+    check(&rt, STATIONED)
+}
+
+#[test]
+fn a_late_sweep_leaves_what_came_after_the_restart(rt: HostRuntime) -> Result<(), Fail> {
+    check(&rt, LATE)
 }
 
 const HELD: &str = "\
@@ -234,6 +244,84 @@ alive 6 n84 s -> Done, 1 0 1 0 99, 1 8 16
 sweep 7 n84 -> Done, 0 0 0 0 99, 0 8 16
 ask 8 n1 99 -> LimitReject, 0 0 0 0 99, 0 8 16
 ask 8 n1 100 -> Accept(0), 1 1 0 0 99, 1 8 16";
+
+const STATIONED: &str = "\
+a device that dials again: places=1
+ask 0 n 1 station=a -> Accept(0), 1 1 0 0 0, 1 1 0
+alive 1 n s1 class=0 station=a -> Done, 1 0 1 0 0, 1 1 0
+ask 5 n 2 station=a -> Accept(1), 1 1 0 0 0, 1 2 0
+alive 6 n s2 class=1 station=a -> Done, 1 0 1 0 0, 1 2 0
+alive 7 n s1 class=0 station=a -> Done, 1 0 1 0 1, 1 2 0
+one of two devices: places=2
+ask 0 n 1 station=a -> Accept(0), 1 1 0 0 0, 1 1 0
+ask 1 n 2 station=b -> Accept(1), 2 2 0 0 0, 2 2 0
+ask 2 n 3 station=b -> Accept(2), 2 2 0 0 0, 2 3 0
+alive 3 n s1 class=0 -> Done, 2 1 1 0 0, 2 3 0
+alive 3 n s2 class=1 -> Done, 2 1 1 0 1, 2 3 0
+ask 4 n 4 station=c -> LimitReject, 2 1 1 0 1, 2 4 0
+ask 4 n 5 -> LimitReject, 2 1 1 0 1, 2 5 0
+and not to a repeat: places=1
+ask 0 n 1 station=a -> Accept(0), 1 1 0 0 0, 1 1 0
+ask 1 n 2 station=a -> Accept(1), 1 1 0 0 0, 1 2 0
+ask 2 n 1 station=a -> Accept(0), 1 1 0 0 0, 1 2 0
+alive 3 n s2 class=1 -> Done, 1 0 1 0 0, 1 2 0
+the one touched longest ago: places=2
+alive 0 n s1 station=a -> Done, 1 0 1 0 0, 1 0 0
+alive 1 n s2 station=a -> Done, 2 0 2 0 0, 2 0 0
+alive 2 n s1 -> Done, 2 0 2 0 0, 2 0 0
+ask 3 n 1 station=a -> Accept(0), 2 1 1 0 0, 2 1 0
+stop 4 n s1 -> Done, 1 1 0 0 0, 1 1 1
+the first of those touched longest ago: places=2
+alive 0 n s1 station=a -> Done, 1 0 1 0 0, 1 0 0
+alive 0 n s2 station=a -> Done, 2 0 2 0 0, 2 0 0
+ask 1 n 1 station=a -> Accept(0), 2 1 1 0 0, 2 1 0
+stop 2 n s2 -> Done, 1 1 0 0 0, 1 1 1
+a link whose station is another since: places=2
+alive 0 n s1 station=a -> Done, 1 0 1 0 0, 1 0 0
+alive 1 n s1 station=b -> Done, 1 0 1 0 0, 1 0 0
+ask 2 n 1 station=a -> Accept(0), 2 1 1 0 0, 2 1 0
+ask 3 n 2 station=b -> Accept(1), 2 2 0 0 0, 2 2 0
+ask 4 n 3 station=a -> Accept(2), 2 2 0 0 0, 2 3 0
+a link that took its station with its session: places=1
+ask 0 n 1 station=a -> Accept(0), 1 1 0 0 0, 1 1 0
+alive 1 n s1 station=b -> Done, 1 0 1 0 0, 1 1 0
+ask 2 n 2 station=a -> LimitReject, 1 0 1 0 0, 1 2 0
+ask 3 n 3 station=b -> Accept(1), 1 1 0 0 0, 1 3 0
+no link of a bundle that takes its place without it too: places=1 ports=2
+alive 0 n s1 multi=m station=a -> Done, 1 0 1 0 0, 1 0 0
+alive 0 n s2 multi=m station=a -> Done, 1 0 2 0 0, 2 0 0
+ask 1 n 1 station=a -> LimitReject, 1 0 2 0 0, 2 1 0
+ask 900 n 2 station=a -> LimitReject, 1 0 0 2 0, 2 2 0
+as many stations as links: places=64
+64 x ask 0 n * station=d* -> Accept(63), 64 64 0 0 0, 64 8 0
+64 x ask 1 m * port=1025 station=d* -> Accept(127), 64 64 0 0 0, 64 8 0
+ask 2 n 1 port=1026 station=d65 -> LimitReject, 64 64 0 0 0, 64 8 0
+ask 2 n 2 port=1026 station=d64 -> Accept(128), 64 64 0 0 0, 64 8 0";
+
+const LATE: &str = "\
+a link that opened since stays: places=2
+alive 0 n s1 -> Done, 1 0 1 0 0, 1 0 0
+alive 10 n s2 -> Done, 2 0 2 0 0, 2 0 0
+sweep 15 n delay=10 -> Done, 1 0 1 0 0, 1 0 0
+alive 16 n s2 -> Done, 1 0 1 0 0, 1 0 0
+sweep 19 n delay=10 -> Done, 1 0 1 0 0, 1 0 0
+sweep 20 n delay=10 -> Done, 0 0 0 0 0, 0 0 0
+a stop and an ask since are kept: places=2
+stop 0 n s1 -> Done, 0 0 0 0 0, 0 0 1
+ask 1 n 1 -> Accept(0), 1 1 0 0 0, 1 1 1
+stop 6 n s2 -> Done, 1 1 0 0 0, 1 1 2
+ask 6 n 2 -> Accept(1), 2 2 0 0 0, 2 2 2
+sweep 9 n delay=5 -> Done, 1 1 0 0 0, 1 2 2
+ask 9 n 2 -> Accept(1), 1 1 0 0 0, 1 2 2
+ask 9 n 1 -> Accept(2), 2 2 0 0 0, 2 3 2
+alive 10 n s2 class=9 -> Done, 2 2 0 0 0, 2 3 2
+alive 10 n s1 class=9 -> Done, 2 2 0 0 1, 2 3 2
+one of no delay: places=1
+alive 5 n s1 -> Done, 1 0 1 0 0, 1 0 0
+sweep 5 n delay=0 -> Done, 0 0 0 0 0, 0 0 0
+another access server's: places=2
+alive 0 n s1 -> Done, 1 0 1 0 0, 1 0 0
+sweep 9 m delay=5 -> Done, 1 0 1 0 0, 1 0 0";
 
 const YIELDED: &str = "\
 to a fresh ask alone: places=1 live=10 grace=5

@@ -1,9 +1,9 @@
 //! Tests of books that are cut to a moment.
 //!
-//! A row has the moments of the first account's book, which are those of its clock, of its link,
-//! its ask and its stop, and after them the clock of the second account, in another shard; then the
-//! moment that they are cut to. What is expected is the greatest clock before, the moments after,
-//! and how many were cut.
+//! A row has the moments of the first account's book, which are those of its clock, of its link (when
+//! it opened, and its last touch), its ask and its stop, and after them the clock of the second
+//! account, in another shard; then the moment that they are cut to. What is expected is the greatest
+//! clock before, the moments after, and how many were cut.
 
 use crate::saved::{ask_of, link_of, stop_of};
 use crate::steps::config_and_steps;
@@ -32,12 +32,13 @@ fn bare(alloc: Global, clock: u64) -> SavedBook {
 fn full(
     alloc: Global,
     clock: u64,
-    touched: u64,
+    (opened, touched): (u64, u64),
     asked: u64,
     stopped: u64,
 ) -> Result<SavedBook, Fail> {
     let mut saved = bare(alloc, clock);
     let mut link = link_of(alloc, "m")?;
+    link.opened = opened;
     link.touched = touched;
     saved.links.push(link)?;
     let mut ask = ask_of(alloc)?;
@@ -54,7 +55,7 @@ fn moments_of(alloc: Global, saved: &SavedBook) -> Result<String, Fail> {
     let mut text = String::new(alloc);
     write!(text, " {}", saved.clock)?;
     for link in saved.links.as_slice() {
-        write!(text, " {}", link.touched)?;
+        write!(text, " {} {}", link.opened, link.touched)?;
     }
     for ask in saved.asks.as_slice() {
         write!(text, " {}", ask.at)?;
@@ -70,14 +71,14 @@ struct Cuts;
 
 impl Subject for Cuts {
     fn found(&self, alloc: Global, fields: &[&str]) -> Result<String, Fail> {
-        let [clock, touched, asked, stopped, other, now] = fields else {
-            return Err("five moments and one")?;
+        let [clock, opened, touched, asked, stopped, other, now] = fields else {
+            return Err("six moments and one")?;
         };
         let (config, _) = config_and_steps(alloc, HEAD, "")?;
         let first = full(
             alloc,
             clock.parse()?,
-            touched.parse()?,
+            (opened.parse()?, touched.parse()?),
             asked.parse()?,
             stopped.parse()?,
         )?;
@@ -103,14 +104,18 @@ fn each_later_moment_becomes_the_present(rt: HostRuntime) -> Result<(), Fail> {
         &rt,
         &Cuts,
         "
-all before | 5 | 4 | 3 | 2 | 1 | 9 | 5: 5 4 3 2 1, 0 cut
-all now | 9 | 9 | 9 | 9 | 9 | 9 | 9: 9 9 9 9 9, 0 cut
-all after | 10 | 11 | 12 | 13 | 14 | 9 | 14: 9 9 9 9 9, 5 cut
-a clock alone | 10 | 9 | 8 | 7 | 9 | 9 | 10: 9 9 8 7 9, 1 cut
-a touch alone, at the end of time | 9 | 18446744073709551615 | 8 | 7 | 9 | 9 | 9: 9 9 8 7 9, 1 cut
-an ask and a stop | 9 | 9 | 10 | 11 | 9 | 9 | 9: 9 9 9 9 9, 2 cut
-the other shard alone | 9 | 9 | 8 | 7 | 12 | 9 | 12: 9 9 8 7 9, 1 cut
-to the beginning of time | 1 | 1 | 1 | 0 | 0 | 0 | 1: 0 0 0 0 0, 3 cut
+all before | 6 | 5 | 4 | 3 | 2 | 1 | 9 | 6: 6 5 4 3 2 1, 0 cut
+all now | 9 | 9 | 9 | 9 | 9 | 9 | 9 | 9: 9 9 9 9 9 9, 0 cut
+all after | 10 | 11 | 12 | 13 | 14 | 15 | 9 | 15: 9 9 9 9 9 9, 6 cut
+a clock alone | 10 | 6 | 9 | 8 | 7 | 9 | 9 | 10: 9 6 9 8 7 9, 1 cut
+an opening alone | 9 | 10 | 9 | 8 | 7 | 9 | 9 | 9: 9 9 9 8 7 9, 1 cut
+a touch alone, at the end of time | 9 | 6 | 18446744073709551615 | 8 | 7 | 9 | 9 \
+    | 9: 9 6 9 8 7 9, 1 cut
+an opening and a touch | 9 | 10 | 11 | 8 | 7 | 9 | 9 | 9: 9 9 9 8 7 9, 2 cut
+an opening that is not known | 9 | 0 | 10 | 8 | 7 | 9 | 9 | 9: 9 0 9 8 7 9, 1 cut
+an ask and a stop | 9 | 9 | 9 | 10 | 11 | 9 | 9 | 9: 9 9 9 9 9 9, 2 cut
+the other shard alone | 9 | 9 | 9 | 8 | 7 | 12 | 9 | 12: 9 9 9 8 7 9, 1 cut
+to the beginning of time | 1 | 1 | 1 | 1 | 0 | 0 | 0 | 1: 0 0 0 0 0 0, 4 cut
 ",
     )
 }

@@ -12,7 +12,7 @@ use std::alloc::Global;
 use std::io::{ErrorKind, Read, Write};
 use std::test::Fail;
 use std::{io, str};
-use test_rows::{Subject, check_rows};
+use test_rows::{Subject, check_rows, push_printed};
 
 /// A client that need not sign, one that must, and an account.
 const HEAD: &str =
@@ -129,8 +129,74 @@ an off | off 0 192.168.1.16 - | 0 Acct 192.168.1.16:1024 \
     0400001acaaf8a99a4a6738d98e8426d8f81c0ec280600000008
 no client's stop | stop 0 10.0.0.9 n u s1 | 0 Acct 10.0.0.9:1024 \
     0400002436371b065764ab55ec950ecae1aecfca28060000000220036e0103752c047331
+an ask of a station | ask 0 192.168.1.16 n u pw 1 station=a | 0 Auth 192.168.1.16:1024 \
+    0101002ff3c1bbf0d718c30da942d0174d8ca1b30103750212ec0149b0cd2dc68e1b4cd1364f6930ba20036e1f\
+    0361
+a signed ask of a station | ask 0 192.168.1.17 - u pw 1 station=00-10-A4-23-19-C0 | 0 Auth 192.168.1.17:1024 \
+    0101004ea53c58ab3b165b41b5fa6e63ded1f6c55012157eae2b00472457137b62cd2b5f4aff01037502126866\
+    e9e151cc0bf3047a846bb13a8f601f1330302d31302d41342d32332d31392d4330
+a CHAP ask of a station | chap 5 192.168.1.16 n u pw 255 station=a | 5 Auth 192.168.1.16:1024 \
+    01ff00303ef6472de0257651a54d1d174932140c0103750313ff4b300fa5f02c4e605ee5a025766c518820036e\
+    1f0361
+a start of a station | start 0 192.168.1.16 n u s1 multi=m class=3 station=a | 0 Acct 192.168.1.16:1024 \
+    0400003c1bb376f4c29199f6176493642a5f8f5f28060000000120036e0103752c04733132036d191200000000\
+    0000000100000000000000031f0361
+an interim of a station | interim 0 192.168.1.16 - u s1 station=a | 0 Acct 192.168.1.16:1024 \
+    04000024d7fcf1ac7dffc07f98d48935d231ef432806000000030103752c0473311f0361
+a stop of a station | stop 0 192.168.1.16 n u s1 station=a | 0 Acct 192.168.1.16:1024 \
+    0400002733a4f9cab09d7e044bab956cbc89b5f628060000000220036e0103752c0473311f0361
+an on that is late | on 12 192.168.1.16 n delay=300 | 12 Acct 192.168.1.16:1024 \
+    04000023b1bb80af80d8e4f38da8d23dd527bf5828060000000720036e29060000012c
+an off that is not | off 12 192.168.1.16 - delay=0 | 12 Acct 192.168.1.16:1024 \
+    04000020f4c381fd2a12beff7d1f084654a75fd1280600000008290600000000
 raw octets | raw-auth 9 1.2.3.4 00fFAb10 | 9 Auth 1.2.3.4:1024 00ffab10
 raw octets for accounting | raw-acct 10 1.2.3.4 00 | 10 Acct 1.2.3.4:1024 00
+",
+    )
+}
+
+/// An event line over two shards: the sweeps that it stands for, each with its shard, moment and delay.
+struct Sweeps;
+
+impl Subject for Sweeps {
+    fn found(&self, alloc: Global, fields: &[&str]) -> Result<String, Fail> {
+        let [line] = fields else {
+            return Err("an event line")?;
+        };
+        let text = format!(in alloc; "set shards 2\n{HEAD}{line}")?;
+        let (config, lines) = config_of(alloc, Script::read(alloc, text.as_bytes())?)?;
+        sweeps_in(alloc, &steps_of(alloc, &config, 1, &lines)?)
+    }
+}
+
+fn sweeps_in(alloc: Global, steps: &[Step]) -> Result<String, Fail> {
+    let mut text = String::new(alloc);
+    for step in steps {
+        if let Step::Sweep {
+            shard,
+            moment,
+            delay,
+            ..
+        } = step
+        {
+            push_printed(&mut text, &(*shard, *moment, *delay))?;
+        }
+    }
+    Ok(text)
+}
+
+#[test]
+fn restarts_stand_for_sweeps_of_each_shard(rt: HostRuntime) -> Result<(), Fail> {
+    check_rows(
+        &rt,
+        &Sweeps,
+        "
+an on | on 12 192.168.1.16 n | (0, 12, 0) (1, 12, 0)
+an off that is late | off 12 192.168.1.16 n delay=300 | (0, 12, 300) (1, 12, 300)
+the greatest delay | on 5 192.168.1.16 - delay=4294967295 | (0, 5, 4294967295) (1, 5, 4294967295)
+a delay of 0 | on 5 192.168.1.16 - delay=0 | (0, 5, 0) (1, 5, 0)
+one of an address that is no client's | on 5 10.0.0.9 n delay=3 |
+a stop | stop 5 192.168.1.16 n u s |
 ",
     )
 }
@@ -158,6 +224,10 @@ fn lines_that_differ_in_the_moment_alone_are_one_packet(rt: HostRuntime) -> Resu
 the moment | ask 0 192.168.1.16 n u pw 7 | ask 00 192.168.1.16 n u pw 7 | true
 an Identifier's text | ask 0 192.168.1.16 n u pw 7 | ask 0 192.168.1.16 n u pw 07 | false
 an Identifier | ask 0 192.168.1.16 n u pw 7 | ask 0 192.168.1.16 n u pw 8 | false
+the moment, of a station | ask 0 192.168.1.16 n u pw 7 station=a | ask 00 192.168.1.16 n u pw 7 station=a \
+    | true
+a station | ask 0 192.168.1.16 n u pw 7 station=a | ask 0 192.168.1.16 n u pw 7 station=b | false
+a station or none | ask 0 192.168.1.16 n u pw 7 station=a | ask 0 192.168.1.16 n u pw 7 | false
 the method | ask 0 192.168.1.16 n u pw 7 | chap 0 192.168.1.16 n u pw 7 | false
 ",
     )

@@ -49,8 +49,8 @@ pub(crate) fn stop_of(alloc: Global) -> Result<KeptStop, NoMemory> {
     })
 }
 
-/// A link in the bundle of this id, or in none for `-`: all are bound to one session, and were
-/// touched after the clock.
+/// A link in the bundle of this id, or in none for `-`: all are bound to one session, are of one
+/// station, and were opened and touched after the clock.
 pub(crate) fn link_of(alloc: Global, bundle: &str) -> Result<SavedLink, NoMemory> {
     let bundle = match bundle {
         "-" => None,
@@ -60,6 +60,8 @@ pub(crate) fn link_of(alloc: Global, bundle: &str) -> Result<SavedLink, NoMemory
         nas: nas_of(alloc)?,
         holder: SavedHolder::Bound(Octets::from_slice(alloc, b"s")?),
         bundle,
+        station: Some(Octets::from_slice(alloc, b"a")?),
+        opened: 8,
         touched: 9,
     })
 }

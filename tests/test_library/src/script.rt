@@ -26,7 +26,16 @@ fn option_text(octets: &Option<AttributeText>) -> Plain<'_> {
     }
 }
 
-/// Tells the method, access server, name, password, Identifier and text of an Access-Request.
+/// Tells the station of a request, and nothing where it has none.
+fn tell_station(found: &mut String, station: &Option<AttributeText>) -> Result<(), Fail> {
+    match station {
+        Some(station) => push_printed(found, &(Plain("of"), text(station.as_slice()))),
+        None => Ok(()),
+    }
+}
+
+/// Tells the method, access server, name, password, Identifier and text of an Access-Request, and its
+/// station.
 fn tell_access(found: &mut String, request: &AccessRequest) -> Result<(), Fail> {
     let nas = option_text(&request.nas);
     let (name, password) = (
@@ -38,7 +47,8 @@ fn tell_access(found: &mut String, request: &AccessRequest) -> Result<(), Fail> 
         Method::Pap => "Pap",
         Method::Chap => "Chap",
     });
-    push_printed(found, &(method, nas, name, password, request.id, digested))
+    push_printed(found, &(method, nas, name, password, request.id, digested))?;
+    tell_station(found, &request.station)
 }
 
 /// The name of a status.
@@ -52,8 +62,8 @@ fn named(status: Status) -> Plain<'static> {
     })
 }
 
-/// Tells the status and the access server of an Accounting-Request, and the name, session, bundle
-/// and class where it reports on a session.
+/// Tells the status and the access server of an Accounting-Request, and the name, session, bundle,
+/// class and station where it reports on a session, else its delay.
 fn tell_accounting(found: &mut String, request: &AccountingRequest) -> Result<(), Fail> {
     match request {
         AccountingRequest::Session {
@@ -63,13 +73,15 @@ fn tell_accounting(found: &mut String, request: &AccountingRequest) -> Result<()
             session,
             bundle,
             class,
+            station,
         } => {
             let (nas, bundle) = (option_text(nas), option_text(bundle));
             let (name, session) = (text(name.as_slice()), text(session.as_slice()));
-            push_printed(found, &(named(*status), nas, name, session, bundle, *class))
+            push_printed(found, &(named(*status), nas, name, session, bundle, *class))?;
+            tell_station(found, station)
         }
-        AccountingRequest::Server { status, nas } => {
-            push_printed(found, &(named(*status), option_text(nas)))
+        AccountingRequest::Server { status, nas, delay } => {
+            push_printed(found, &(named(*status), option_text(nas), *delay))
         }
     }
 }
@@ -136,8 +148,27 @@ a session like a bundle | interim 1 10.0.0.1 n u multi=s class=9 \
 a bundle like a class | interim 1 10.0.0.1 n u s multi=class=1 \
     | 1 [10, 0, 0, 1] (InterimUpdate, n, u, s, class=1, None)
 a stop | stop 1 10.0.0.1 - u s | 1 [10, 0, 0, 1] (Stop, none, u, s, none, None)
-an on | on 1 10.0.0.1 n | 1 [10, 0, 0, 1] (AccountingOn, n)
-an off | off 1 10.0.0.1 - | 1 [10, 0, 0, 1] (AccountingOff, none)
+an on | on 1 10.0.0.1 n | 1 [10, 0, 0, 1] (AccountingOn, n, None)
+an off | off 1 10.0.0.1 - | 1 [10, 0, 0, 1] (AccountingOff, none, None)
+an on that is late | on 1 10.0.0.1 n delay=060 | 1 [10, 0, 0, 1] (AccountingOn, n, Some(60))
+an off that is later | off 1 10.0.0.1 - delay=4294967295 \
+    | 1 [10, 0, 0, 1] (AccountingOff, none, Some(4294967295))
+an on that is not late | on 1 10.0.0.1 n delay=0 | 1 [10, 0, 0, 1] (AccountingOn, n, Some(0))
+an access server like a delay | on 1 10.0.0.1 delay=1 \
+    | 1 [10, 0, 0, 1] (AccountingOn, delay=1, None)
+an ask of a station | ask 7 192.168.1.16 n u pw 255 station=a \
+    | 7 [192, 168, 1, 16] (Pap, n, u, pw, 255, ask 192.168.1.16 n u pw 255 station=a) (of, a)
+a CHAP ask of a station | chap 7 10.0.0.1 - u pw 1 station=station=a \
+    | 7 [10, 0, 0, 1] (Chap, none, u, pw, 1, chap 10.0.0.1 - u pw 1 station=station=a) \
+      (of, station=a)
+a start of a station | start 1 10.0.0.1 n u s station=a \
+    | 1 [10, 0, 0, 1] (Start, n, u, s, none, None) (of, a)
+an interim with all ties | interim 1 10.0.0.1 n u s multi=m class=9 station=a \
+    | 1 [10, 0, 0, 1] (InterimUpdate, n, u, s, m, Some(9)) (of, a)
+a bundle like a station | start 1 10.0.0.1 n u s multi=station=a \
+    | 1 [10, 0, 0, 1] (Start, n, u, s, station=a, None)
+a stop of a station | stop 1 10.0.0.1 n u s station=a \
+    | 1 [10, 0, 0, 1] (Stop, n, u, s, none, None) (of, a)
 octets for authentication | raw-auth 1 10.0.0.1 01fF | 1 ([10, 0, 0, 1], Auth, 01ff)
 octets for accounting | raw-acct 1 10.0.0.1 00 | 1 ([10, 0, 0, 1], Acct, 00)
 a tick | tick 3 | 3 tick
@@ -168,7 +199,8 @@ fn told_client(alloc: Global, client: &Client) -> Result<String, Fail> {
     printed(alloc, &(client.address, secret, client.signed))
 }
 
-/// An account's name, password, places, ports, and own live and grace times.
+/// An account's name, password, places, ports, own live and grace times, and whether it says that it
+/// counts by stations.
 fn told_account(alloc: Global, account: &Entry) -> Result<String, Fail> {
     let Some(password) = &account.password else {
         return Err("an account without a password")?;
@@ -176,7 +208,11 @@ fn told_account(alloc: Global, account: &Entry) -> Result<String, Fail> {
     let (name, password) = (Plain(account.name.as_str()), text(password.expose()));
     let (places, ports) = (account.rules.places, account.rules.ports);
     let (live, grace) = (account.own_live, account.own_grace);
-    printed(alloc, &(name, password, places, ports, live, grace))
+    let station = account.own_station;
+    printed(
+        alloc,
+        &(name, password, places, ports, live, grace, station),
+    )
 }
 
 #[test]
@@ -187,10 +223,12 @@ fn configuration_lines_say_what_there_is(rt: HostRuntime) -> Result<(), Fail> {
         "
 a client | client 192.168.1.16 xyzzy5461 | ([192, 168, 1, 16], xyzzy5461, false)
 a client that signs | client 10.0.0.1 s signed | ([10, 0, 0, 1], s, true)
-places | account u pw 1 | (u, pw, 1, 1, None, None)
-ports | account u pw 64 16 | (u, pw, 64, 16, None, None)
-times | account u pw 2 3 live=30 grace=5 | (u, pw, 2, 3, Some(30), Some(5))
-a grace | account u pw 2 grace=5 | (u, pw, 2, 1, None, Some(5))
+places | account u pw 1 | (u, pw, 1, 1, None, None, None)
+ports | account u pw 64 16 | (u, pw, 64, 16, None, None, None)
+times | account u pw 2 3 live=30 grace=5 | (u, pw, 2, 3, Some(30), Some(5), None)
+a grace | account u pw 2 grace=5 | (u, pw, 2, 1, None, Some(5), None)
+stations | account u pw 2 station | (u, pw, 2, 1, None, None, Some(true))
+everything | account u pw 2 3 live=30 grace=5 station | (u, pw, 2, 3, Some(30), Some(5), Some(true))
 ",
     )
 }
@@ -225,7 +263,9 @@ fn settings_told(alloc: Global, settings: &Settings) -> Result<String, Fail> {
     push_value(&mut text, ", grace: ", &settings.grace, "")?;
     push_value(&mut text, ", closed: ", &settings.closed, "")?;
     push_value(&mut text, ", keep: ", &settings.keep, "")?;
-    push_value(&mut text, ", interim: ", &settings.interim, " }")?;
+    push_value(&mut text, ", interim: ", &settings.interim, "")?;
+    push_value(&mut text, ", station: ", &settings.station, "")?;
+    push_value(&mut text, ", delay_time: ", &settings.delay_time, " }")?;
     Ok(text)
 }
 
@@ -237,11 +277,11 @@ fn settings_are_those_of_their_last_lines(rt: HostRuntime) -> Result<(), Fail> {
         "
 none | \
     | Settings { version: 2, shards: 1, reserve: 60, live: 900, grace: 900, closed: 3600, keep: 10, \
-      interim: None }
+      interim: None, station: false, delay_time: true }
 all, one twice \
     | set shards 4/set reserve 1/set live 2/set grace 3/set closed 4/set keep 6/set keep 005/ \
     | Settings { version: 2, shards: 4, reserve: 1, live: 2, grace: 3, closed: 4, keep: 5, \
-      interim: None }
+      interim: None, station: false, delay_time: true }
 ",
     )
 }
@@ -290,6 +330,7 @@ a datagram | raw-auth 0 1.2.3.4 WORD | 0f | 65507 | 1 | (0, 0, 1)
 a password of an ask | ask 0 1.2.3.4 n u WORD 1 | p | 128 | 1 | (0, 0, 1)
 a NAS | ask 0 1.2.3.4 WORD u p 1 | n | 253 | 1 | (0, 0, 1)
 a session | start 0 1.2.3.4 n u WORD multi=m | s | 253 | 1 | (0, 0, 1)
+a station | ask 0 1.2.3.4 n u p 1 station=WORD | s | 253 | 1 | (0, 0, 1)
 a comment | # WORD | xxxxxxxxxxxxxxxxxxxxxxxxxxxxxxxxxxxxxxxxxxxxxxxxxx | 20000 | 1 | (0, 0, 0)
 clients | client 1.2.3.4 s | | 0 | 257 | (257, 0, 0)
 accounts | account n p 1 | | 0 | 16385 | (0, 16385, 0)

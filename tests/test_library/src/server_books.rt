@@ -91,6 +91,15 @@ a sweep comes to every shard, and sweeps its access server alone \
     | set shards 3/client C xyzzy5461/account a pw 1/account b pw 1/account c pw 1/ \
     | 0 ask 0 n 1/1 ask 0 m 1/2 ask 0 n 1; all sweep 1 n/0 ask 1 n 2/1 ask 1 n 2/2 ask 1 n 2 \
     | Accept(0), Accept(0), Accept(0); Done, Accept(1), LimitReject, Accept(1)
+a late sweep ends what opened before the restart, in every shard \
+    | set shards 2/client C xyzzy5461/account a pw 1/account b pw 1/ \
+    | 0 ask 0 n 1/1 ask 5 n 1; all sweep 8 n delay=5/0 ask 8 n 2/1 ask 8 n 2; \
+    all sweep 10 n delay=5/1 ask 10 n 3 \
+    | Accept(0), Accept(0); Done, Accept(1), LimitReject; Done, Accept(1)
+a link yields to its station | client C xyzzy5461/account a pw 1/ \
+    | 0 ask 0 n 1 station=d; 0 ask 1 n 2 station=d/0 ask 2 n 3/0 alive 3 n s class=1 station=e; \
+    0 ask 4 n 4 station=d/0 ask 5 n 5 station=e \
+    | Accept(0); Accept(1), LimitReject, Done; LimitReject, Accept(2)
 a stray steps no book | set shards 2/client C xyzzy5461/account a pw 1/account b pw 1/ \
     | 0 ask 0 n 1/stray/0 ask 0 n 1/0 ask 0 n 2 | Accept(0), Done, Accept(0), LimitReject
 an own move leaves the other books | client C xyzzy5461/account a pw 1/account b pw 1/ \

@@ -126,7 +126,7 @@ pub(crate) fn move_of(alloc: Global, line: &str) -> Result<Move, Fail> {
     }
     let Event { moment, act } = event;
     match act {
-        Act::Sweep { nas } => Ok(Move::Sweep { moment, nas }),
+        Act::Sweep { nas, delay } => Ok(Move::Sweep { moment, nas, delay }),
         Act::Tick => Ok(Move::Tick { moment }),
         _ => Err("no move of all accounts")?,
     }
@@ -158,6 +158,12 @@ a line of each kind | client C xyzzy5461/account a pw 1/account b pw 2/ | 0 \
     | Accept(0), Accept(0), LimitReject, Done, Done, Done, Done, Done, 8 of 8, \
     shard 0 from 0: 0 0; 0 at 0 Accept(0); 0 at 1 Accept(0); 0 at 20 LimitReject; 1 at 21 Done; \
     1 at 22 Done; sweep 23 Done; tick 24 Done; stray 0 Done
+a late sweep, and a station | client C xyzzy5461/account a pw 1/ | 0 \
+    | 0 ask 0 n 1/all sweep 4 n delay=5/0 ask 4 n 2/all sweep 5 n delay=5/0 ask 5 n 3 station=d/\
+    0 ask 6 n 4 station=d/journal/cut \
+    | Accept(0), Done, LimitReject, Done, Accept(1), Accept(2), 6 of 6, \
+    shard 0 from 0: 0; 0 at 0 Accept(0); sweep 4 Done; 0 at 4 LimitReject; sweep 5 Done; \
+    0 at 5 Accept(1); 0 at 6 Accept(2)
 what a shard takes | set shards 2/client C xyzzy5461/account a pw 1/account b pw 1/account c pw 1/ \
     | 1 | 0 ask 0 n 1/1 ask 0 n 1/2 stop 0 n s/3 ask 0 n 1/1 tick 0/1 sweep 0 n/1 alive 0 n s/\
     1 stop 0 n s/journal \

@@ -63,6 +63,18 @@ two accounts in shards of their own \
 a restart, a stray | set shards 2/client C xyzzy5461/account a pw 1/account b pw 1/ \
     | start 0 C n a s/on 1 C n/start 2 C n ghost s/stop 3 C n a s \
     | Account Quiet Quiet Account Account Account
+a late restart | set shards 2/client C xyzzy5461/account a pw 1/account b pw 1/ \
+    | ask 0 C n a pw 1/ask 5 C n b pw 1/on 8 C n delay=5/ask 8 C n a pw 2/ask 8 C n b pw 2 \
+    | Accept(0) Accept(0) Quiet Quiet Account Accept(1) LimitReject
+an account that counts by stations, and one that does not \
+    | client C xyzzy5461/account a pw 1 station/account b pw 1/ \
+    | ask 0 C n a pw 1 station=d/ask 1 C n a pw 2 station=d/ask 0 C n b pw 1 station=d/\
+    ask 1 C n b pw 2 station=d \
+    | Accept(0) Accept(1) Accept(0) LimitReject
+late sweeps of a shard each | set shards 2/client C xyzzy5461/account a pw 1/account b pw 1/ \
+    | ask 0 C n b pw 1/sweep 1 4 n delay=5/ask 4 C n b pw 2/sweep 0 5 n delay=5/ask 5 C n b pw 3/\
+    sweep 1 5 n delay=5/ask 5 C n b pw 4 \
+    | Accept(0) Quiet LimitReject Quiet LimitReject Quiet Accept(1)
 a moment that falls | set shards 2/client C xyzzy5461/account a pw 1/account b pw 1/ \
     | ask 18446744073709551615 C n a pw 1/ask 0 C n a pw 2 \
     | Accept(0) LimitReject
@@ -140,6 +152,14 @@ two accounts in shards of their own \
 a restart, a stray | set shards 2/client C xyzzy5461/account a pw 1/account b pw 1/ \
     | start 0 C n a s/on 1 C n/start 2 C n ghost s/stop 3 C n a s \
     | ((0, 0), (0, 0))
+a late restart | set shards 2/client C xyzzy5461/account a pw 1/account b pw 1/ \
+    | ask 0 C n a pw 1/ask 5 C n b pw 1/on 8 C n delay=5/ask 8 C n a pw 2/ask 8 C n b pw 2 \
+    | ((1, 1), (1, 1))
+an account that counts by stations, and one that does not \
+    | client C xyzzy5461/account a pw 1 station/account b pw 1/ \
+    | ask 0 C n a pw 1 station=d/ask 1 C n a pw 2 station=d/ask 0 C n b pw 1 station=d/\
+    ask 1 C n b pw 2 station=d \
+    | ((1, 1), (1, 1))
 ",
     )
 }
@@ -210,6 +230,19 @@ two accounts in shards of their own \
 a restart, a stray | set shards 2/client C xyzzy5461/account a pw 1/account b pw 1/ \
     | start 0 C n a s/on 1 C n/start 2 C n ghost s/stop 3 C n a s | 0 \
     | (alive, 0, Done) (sweep, 1, Done) (stop, 3, Done)
+a late restart | set shards 2/client C xyzzy5461/account a pw 1/account b pw 1/ \
+    | ask 0 C n a pw 1/ask 5 C n b pw 1/on 8 C n delay=5/ask 8 C n a pw 2/ask 8 C n b pw 2 | 1 \
+    | (ask, 5, Accept(0)) (sweep, 8, Done) (ask, 8, LimitReject)
+an account that counts by stations, and one that does not \
+    | client C xyzzy5461/account a pw 1 station/account b pw 1/ \
+    | ask 0 C n a pw 1 station=d/ask 1 C n a pw 2 station=d/ask 0 C n b pw 1 station=d/\
+    ask 1 C n b pw 2 station=d | 0 \
+    | (ask, 0, Accept(0)) (ask, 1, Accept(1))
+an account that does not count by stations, beside one that does \
+    | client C xyzzy5461/account a pw 1 station/account b pw 1/ \
+    | ask 0 C n a pw 1 station=d/ask 1 C n a pw 2 station=d/ask 0 C n b pw 1 station=d/\
+    ask 1 C n b pw 2 station=d | 1 \
+    | (ask, 0, Accept(0)) (ask, 1, LimitReject)
 ",
     )
 }
@@ -297,16 +330,26 @@ fn push_steps(
 fn step_of(alloc: Global, line: &str) -> Result<Step, Fail> {
     let words: Vec<&str> = line.split(' ').collect(alloc)?;
     match words.as_slice() {
-        ["sweep", shard, moment, name] => Ok(Step::Sweep {
+        ["sweep", shard, moment, name, late @ ..] => Ok(Step::Sweep {
             shard: short_number(shard)?,
             moment: number(moment)?,
             nas: nas_of(alloc, name)?,
+            delay: delay_of(late)?,
         }),
         ["time", shard, moment] => Ok(Step::Tick {
             shard: short_number(shard)?,
             moment: number(moment)?,
         }),
         _ => Err("no step for one shard")?,
+    }
+}
+
+/// The delay of the words `[delay=N]`.
+fn delay_of(words: &[&str]) -> Result<u64, Fail> {
+    match words {
+        [] => Ok(0),
+        [word] => number(word.trim_start_matches("delay=")),
+        _ => Err("one delay at most")?,
     }
 }
 

@@ -2,9 +2,9 @@
 //! ends, beside one run of the same packets without a crash.
 
 use crate::undisturbed::{Run, batch_len, batches_of, config_of, run_of};
-use rld_lives::{Lived, Outcome, Plan, Step, lives};
+use rld_lives::{Lived, Logs, Outcome, Plan, Step, lives};
 use rld_log::{Ending, Life, MemoryLog};
-use rld_spelling::Header;
+use rld_spelling::{FORMAT_VERSION, Header};
 use rld_store::{Opened, Store, read_frames};
 use rsl_accounts::Config;
 use rsl_shard::{Line, Row};
@@ -12,15 +12,25 @@ use std::alloc::Global;
 use std::process::Abort;
 use std::test::Fail;
 
-/// A life that answers all makes 27 calls of the disk: three open the log, and two record each of twelve
+/// A life that answers all makes 33 calls of the disk: three open the log, and two record each of fifteen
 /// batches. So from none to all of them succeed.
-const CALLS: u64 = 28; // quick: 7
+const CALLS: u64 = 34; // quick: 7
 
 /// A generation begins with five calls of its log: a read, and two for each of a header and a snapshot.
 const ROLL_CALLS: u64 = 5;
 
 /// How many batches the moves of the run are in.
-const BATCHES: usize = 12;
+const BATCHES: usize = 15;
+
+/// How many batches a life answers that ends in a roll, and how many moves these have.
+const BEFORE_ROLL: (u64, usize) = (6, 12);
+
+/// How many moves the log has over which the life after it went on, where this many calls of the next log
+/// succeed: all 30 where it is the older one, and else those after the roll. After a kill the snapshot is
+/// whole once it is written, and after a loss of power, which keeps nothing, once it is synced.
+const AFTER_KILL: [usize; 6] = [30, 30, 30, 30, 18, 18];
+
+const AFTER_POWER_LOSS: [usize; 6] = [30, 30, 30, 30, 30, 18];
 
 /// How many octets a loss of power keeps of what was not synced.
 const KEPT: [usize; 6] = [0, 1, 19, 20, 27, 1000];
@@ -40,6 +50,7 @@ struct Server {
 
 /// The header of the generation.
 const HEADER: Header = Header {
+    format: FORMAT_VERSION,
     era: 1,
     generation: 1,
     digest: [0; 16],
@@ -71,6 +82,15 @@ fn steps_of(alloc: Global, lines: &[Line]) -> Result<Vec<Step>, Fail> {
         steps.push(Step::Batch(batch))?;
     }
     Ok(steps)
+}
+
+/// A plan of these steps.
+fn plan_of(steps: Vec<Step>, last: Option<Header>, ending: Ending) -> Plan {
+    Plan {
+        steps,
+        last,
+        ending,
+    }
 }
 
 /// How many moves are answered, where each decision is that of its line.
@@ -187,7 +207,7 @@ impl Server {
         let mut plans = Vec::new(alloc);
         for from in froms {
             let steps = steps_of(alloc, self.lines_from(*from))?;
-            plans.push(Plan { steps, ending })?;
+            plans.push(plan_of(steps, None, ending))?;
         }
         Ok(plans)
     }
@@ -213,7 +233,12 @@ impl Server {
         short: &[Life],
         plans: Vec<Plan>,
     ) -> Result<Lived<MemoryLog>, Fail> {
-        match lives(alloc, &self.config, log_of(alloc, octets, short)?, plans) {
+        let newest = log_of(alloc, octets, short)?;
+        let logs = Logs {
+            older: None,
+            newest,
+        };
+        match lives(alloc, &self.config, logs, plans) {
             Ok(lived) => Ok(lived),
             Err(_) => Err("no memory")?,
         }
@@ -234,10 +259,7 @@ impl Server {
         steps: Vec<Step>,
     ) -> Result<Lived<MemoryLog>, Fail> {
         let mut plans = Vec::new(alloc);
-        plans.push(Plan {
-            steps,
-            ending: Ending::Kill,
-        })?;
+        plans.push(plan_of(steps, None, Ending::Kill))?;
         self.lived_as(alloc, &self.begun, short, plans)
     }
 
@@ -251,6 +273,39 @@ impl Server {
         let mut steps = steps_of(alloc, &self.run.lines)?;
         steps.insert(index, Step::Roll(HEADER))?;
         self.lived_once(alloc, short, steps)
+    }
+
+    /// What two lives answer and leave, of which the first ends in a roll after this many calls of the next
+    /// log, and the second goes on with the moves from there.
+    fn lived_through_roll(
+        &self,
+        alloc: Global,
+        calls: u64,
+        ending: Ending,
+    ) -> Result<Lived<MemoryLog>, Fail> {
+        let (batches, moves) = BEFORE_ROLL;
+        let mut plans = Vec::new(alloc);
+        let first = steps_of(alloc, &self.run.lines[..moves.min(self.run.lines.len())])?;
+        plans.push(plan_of(first, Some(HEADER), ending))?;
+        plans.push(plan_of(steps_of(alloc, self.lines_from(moves))?, None, ending))?;
+        self.lived_as(
+            alloc,
+            &self.begun,
+            &[short(3 + 2 * batches + calls, 0)],
+            plans,
+        )
+    }
+
+    /// That two such lives answered all moves of the run, and left one log: how many moves it has.
+    fn moves_after_roll(&self, alloc: Global, lived: &Lived<MemoryLog>) -> Result<usize, Fail> {
+        let (_, moves) = BEFORE_ROLL;
+        let first = answered(&self.run.lines, told_by(lived, 0)?)?;
+        let second = answered(self.lines_from(moves), told_by(lived, 1)?)?;
+        let gone = lived.gone.iter().filter(|other| other.is_some()).count();
+        if (first, second, gone) != (moves, 30 - moves, 1) || lived.logs.older.is_some() {
+            return Err("another life")?;
+        }
+        self.moves_of_last(alloc, lived.logs.newest.octets())
     }
 
     /// That a log has the books after the run, and how many moves its generation has.
@@ -274,7 +329,7 @@ impl Server {
         lived: &Lived<MemoryLog>,
         froms: &[usize],
     ) -> Result<usize, Fail> {
-        let stands = self.moves_in(alloc, lived.log.octets())?;
+        let stands = self.moves_in(alloc, lived.logs.newest.octets())?;
         for index in 0..froms.len() {
             let from = *froms.get(index).unwrap_or(&stands);
             let next = *froms.get(index.saturating_add(1)).unwrap_or(&stands);
@@ -327,7 +382,7 @@ fn short(calls: u64, kept: usize) -> Life {
 #[test]
 fn a_crash_at_each_call_loses_nothing(rt: HostRuntime) -> Result<(), Fail> {
     let server = Server::new(rt.alloc())?;
-    assert_eq!(rt; server.run.lines.len(), 24);
+    assert_eq!(rt; server.run.lines.len(), 30);
     crash_at_each_call(&rt, &server)
 }
 
@@ -335,10 +390,10 @@ fn crash_at_each_call<R: Abort + AllocGlobal>(rt: &R, server: &Server) -> Result
     for calls in 0..CALLS {
         for kept in KEPT {
             let end = server.live_three_times(rt.alloc(), short(calls, kept), Ending::PowerLoss)?;
-            assert_eq!(rt; end, 24);
+            assert_eq!(rt; end, 30);
         }
         let end = server.live_three_times(rt.alloc(), short(calls, 0), Ending::Kill)?;
-        assert_eq!(rt; end, 24);
+        assert_eq!(rt; end, 30);
     }
     Ok(())
 }
@@ -377,7 +432,7 @@ fn fail_each_append<R: Abort + AllocGlobal>(rt: &R, server: &Server) -> Result<(
         let lived = server.lived(alloc, &server.begun, &[once], &[0], Ending::Kill)?;
         let without = server.lived_without(alloc, index)?;
         check_gone_on(told_by(&lived, 0)?, told_by(&without, 0)?, index)?;
-        assert!(rt; lived.log.octets() == without.log.octets());
+        assert!(rt; lived.logs.newest.octets() == without.logs.newest.octets());
     }
     Ok(())
 }
@@ -392,11 +447,14 @@ fn a_life_goes_on_in_a_next_generation(rt: HostRuntime) -> Result<(), Fail> {
 
 fn roll_before_each_batch<R: Abort + AllocGlobal>(rt: &R, server: &Server) -> Result<(), Fail> {
     let alloc = rt.alloc();
-    let mut left: usize = 24;
+    let mut left: usize = 30;
     for index in 0..BATCHES {
         let lived = server.lived_rolling(alloc, index, &[])?;
-        assert_eq!(rt; answered(&server.run.lines, told_by(&lived, 0)?)?, 24);
-        assert_eq!(rt; server.moves_of_last(alloc, lived.log.octets())?, left);
+        assert_eq!(rt; answered(&server.run.lines, told_by(&lived, 0)?)?, 30);
+        assert_eq!(rt;
+            server.moves_of_last(alloc, lived.logs.newest.octets())?,
+            left
+        );
         left = left.saturating_sub(batch_len(index));
     }
     Ok(())
@@ -422,7 +480,32 @@ fn fail_to_roll<R: Abort + AllocGlobal>(rt: &R, server: &Server) -> Result<(), F
         let still = server.lived(alloc, &server.begun, &[once], &[0], Ending::Kill)?;
         let (told, wanted) = (told_by(&lived, 0)?, told_by(&still, 0)?);
         assert!(rt; told.len() == wanted.len() && told.iter().zip(wanted.iter()).all(are_alike));
-        assert!(rt; lived.log.octets() == still.log.octets());
+        assert!(rt; lived.logs.newest.octets() == still.logs.newest.octets());
+    }
+    Ok(())
+}
+
+/// Each call of the next log fails in turn, with all after it, in a roll in which a life ends. The next life
+/// goes on over the log that counts.
+#[test]
+fn a_life_ends_within_a_roll(rt: HostRuntime) -> Result<(), Fail> {
+    let server = Server::new(rt.alloc())?;
+    end_within_a_roll(&rt, &server, Ending::Kill, &AFTER_KILL)?;
+    end_within_a_roll(&rt, &server, Ending::PowerLoss, &AFTER_POWER_LOSS)
+}
+
+fn end_within_a_roll<R: Abort + AllocGlobal>(
+    rt: &R,
+    server: &Server,
+    ending: Ending,
+    wanted: &[usize],
+) -> Result<(), Fail> {
+    let alloc = rt.alloc();
+    let mut calls: u64 = 0;
+    for moves in wanted {
+        let lived = server.lived_through_roll(alloc, calls, ending)?;
+        assert_eq!(rt; server.moves_after_roll(alloc, &lived)?, *moves);
+        calls = calls.saturating_add(1);
     }
     Ok(())
 }
@@ -434,16 +517,16 @@ fn a_torn_end_of_each_length_is_made_good(rt: HostRuntime) -> Result<(), Fail> {
     let alloc = rt.alloc();
     let server = Server::new(alloc)?;
     let whole = server.lived(alloc, &server.begun, &[], &[0], Ending::Kill)?;
-    tear(&rt, &server, whole.log.octets())
+    tear(&rt, &server, whole.logs.newest.octets())
 }
 
 fn tear<R: Abort + AllocGlobal>(rt: &R, server: &Server, octets: &[u8]) -> Result<(), Fail> {
     let alloc = rt.alloc();
     for len in octets.len().saturating_sub(LAST_FRAME)..octets.len() {
         let torn = &octets[..len];
-        assert_eq!(rt; server.moves_in(alloc, torn)?, 21);
-        let end = server.live(alloc, torn, &[], &[21], Ending::Kill)?;
-        assert_eq!(rt; end, 24);
+        assert_eq!(rt; server.moves_in(alloc, torn)?, 27);
+        let end = server.live(alloc, torn, &[], &[27], Ending::Kill)?;
+        assert_eq!(rt; end, 30);
     }
     Ok(())
 }

@@ -53,6 +53,8 @@ fn settings(version: u64) -> Settings {
         closed: 3600,
         keep: 10,
         interim: None,
+        station: false,
+        delay_time: false,
     }
 }
 
@@ -78,6 +80,7 @@ fn entry(alloc: Global, name: &str, password: &str) -> Result<Entry, Fail> {
         idle_timeout: None,
         own_live: None,
         own_grace: None,
+        own_station: None,
         interim: None,
         disabled: false,
         port_limit: true,

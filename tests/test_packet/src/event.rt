@@ -10,6 +10,7 @@ mod guard;
 mod hostile;
 mod replies;
 mod signatures;
+mod stations;
 mod trusted;
 
 use rsl_account_file::read_config;
@@ -19,7 +20,7 @@ use std::alloc::Global;
 use std::io::Eprint;
 use std::test::Fail;
 use test_rows::{Hex, Subject, check_rows, number, octets_of, printed, push_printed, replaced};
-use test_timelines::{push_act, push_nas, push_note, push_value};
+use test_timelines::{push_act, push_delay, push_nas, push_note, push_value};
 
 const AUTH: Port = Port::Auth;
 
@@ -239,9 +240,10 @@ fn told(alloc: Global, meaning: &Meaning) -> Result<String, Fail> {
             push_act(&mut text, act)?;
             text.push_str(" }")?;
         }
-        Meaning::Restart { nas } => {
+        Meaning::Restart { nas, delay } => {
             text.push_str("Restart { nas: ")?;
             push_nas(&mut text, nas)?;
+            push_delay(&mut text, *delay)?;
             text.push_str(" }")?;
         }
         Meaning::Stray(note) => {

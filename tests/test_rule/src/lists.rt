@@ -26,11 +26,14 @@ const EVENTS: u64 = 50;
 /// How often each kind of outcome comes at least.
 const LEAST: u64 = 200; // quick: 20
 
+/// How often a sweep that is told late ends some links and leaves others, at least.
+const LEAST_PARTED: u64 = 5; // quick: 1
+
 /// The books that are saved and put back, each with rules of its own.
 const BOOKS: u64 = 10_000; // quick: 300
 
 /// How often a saved book has each thing that is easily lost, at least.
-const LEAST_SAVED: u64 = 1_000; // quick: 30
+const LEAST_SAVED: u64 = 1_000; // quick: 15
 
 #[test]
 fn books_decide_as_the_rule_on_random_lists(rt: HostRuntime) -> Result<(), Fail> {
@@ -41,6 +44,10 @@ fn books_decide_as_the_rule_on_random_lists(rt: HostRuntime) -> Result<(), Fail>
         assert_eq!(rt; differing, None, "list {list}");
     }
     assert!(rt; found.least() >= LEAST, "too few of a kind: {found}");
+    assert!(rt;
+        found.parted() >= LEAST_PARTED,
+        "too few late sweeps that part links: {found}"
+    );
     Ok(())
 }
 

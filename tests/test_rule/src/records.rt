@@ -50,7 +50,7 @@ fn move_of<R: AllocGlobal>(rt: &R, line: &str) -> Result<Move, Fail> {
 fn move_of_all(event: Event) -> Result<Move, Fail> {
     let Event { moment, act } = event;
     match act {
-        Act::Sweep { nas } => Ok(Move::Sweep { moment, nas }),
+        Act::Sweep { nas, delay } => Ok(Move::Sweep { moment, nas, delay }),
         Act::Tick => Ok(Move::Tick { moment }),
         _ => Err(Fail::from("no move of all accounts")),
     }
@@ -90,9 +90,9 @@ fn event_to(account: u32, moved: Move) -> Option<Event> {
             account: other,
             event,
         } => (other == account).then_some(event),
-        Move::Sweep { moment, nas } => Some(Event {
+        Move::Sweep { moment, nas, delay } => Some(Event {
             moment,
-            act: Act::Sweep { nas },
+            act: Act::Sweep { nas, delay },
         }),
         Move::Tick { moment } => Some(Event {
             moment,

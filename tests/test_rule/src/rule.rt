@@ -5,6 +5,7 @@ mod alives;
 mod asks;
 mod bundles;
 mod sizes;
+mod stations;
 mod sweeps;
 mod yielding;
 

@@ -288,7 +288,7 @@ fn closed<L0: Tally, L1: Tally, L2: Tally, L3: Tally>(
         passes,
     } = worked;
     let closed = service.close(alloc, passes, Vec::new(alloc))?;
-    told(alloc, outcome, held, &closed.segments)
+    told(alloc, outcome, held, closed.segments())
 }
 
 /// What all of it comes to.

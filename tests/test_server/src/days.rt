@@ -210,7 +210,7 @@ impl<L0: Tally, L1: Tally, L2: Tally, L3: Tally> Served<L0, L1, L2, L3> {
         passes.push(pass)?;
         passes.push(ticks)?;
         let closed = service.close(alloc, passes, Vec::new(alloc))?;
-        push_lines(text, clock, &closed.segments)
+        push_lines(text, clock, closed.segments())
     }
 }
 

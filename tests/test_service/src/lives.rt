@@ -2,16 +2,16 @@
 //!
 //! A row has a name, the number of shards and the places of each of the accounts `a` to `d`, lines
 //! with `/` between them, and how the service is closed. `open COUNT` opens passes, the first of
-//! which is 0, and tells how many, and why there are no more. `PASS ask MOMENT NAME ID` applies an
-//! Access-Request, `PASS on MOMENT` a restart of the access server, `PASS stray MOMENT` a Start of
-//! nobody's: it tells the word of the answer. `PASS expire MOMENT` tells its answer, `report` the
+//! which is 0, and tells how many, and why there are no more. `PASS ask MOMENT NAME ID [STATION]`
+//! applies an Access-Request, `PASS on MOMENT [DELAY]` a restart of the access server, `PASS stray
+//! MOMENT` a Start of nobody's: it tells the word of the answer. `PASS expire MOMENT` tells its answer, `report` the
 //! accounts that hold places, with these, `cut SHARD` how many lines came before the segment and how
 //! many it has. The service is closed with `everything`, or with `one pass` alone, without the
 //! segments that were `cut`, with the first of these alone (`first cut`), or with its first decision
 //! `changed`: that tells the fault, or of each segment its shard, how many lines came before and how
 //! many it has, and then the audit of each shard.
 
-use crate::packets::{SOURCE, ask, config_of, on, stray};
+use crate::packets::{SOURCE, ask_of, config_of, on, stray};
 use rsl_accounts::Config;
 use rsl_event::{Decision, Port};
 use rsl_record::{CloseFault, audit};
@@ -183,7 +183,7 @@ impl<L0: Tally, L1: Tally, L2: Tally, L3: Tally> Served<L0, L1, L2, L3> {
             _ => return Err("an unknown ending")?,
         }
         match service.close(alloc, passes, given) {
-            Ok(closed) => told_segments(alloc, &life.config, &closed.segments),
+            Ok(closed) => told_segments(alloc, &life.config, closed.segments()),
             Err(fault) => printed::<CloseFault>(alloc, &fault),
         }
     }
@@ -202,15 +202,29 @@ fn change(given: &mut [Segment]) {
 fn datagram_of(alloc: Global, call: &str) -> Result<(Port, u64, Vec<u8>), Fail> {
     let words: Vec<&str> = call.split(' ').collect(alloc)?;
     match words.as_slice() {
-        ["ask", moment, name, id] => Ok((
-            Port::Auth,
+        ["ask", moment, name, id] => ask_at(alloc, moment, name, id, None),
+        ["ask", moment, name, id, station] => ask_at(alloc, moment, name, id, Some(station)),
+        ["on", moment] => Ok((Port::Acct, number(moment)?, on(alloc, None)?)),
+        ["on", moment, delay] => Ok((
+            Port::Acct,
             number(moment)?,
-            ask(alloc, name, octet(id)?, &[0; 16])?,
+            on(alloc, Some(short_number(delay)?))?,
         )),
-        ["on", moment] => Ok((Port::Acct, number(moment)?, on(alloc)?)),
         ["stray", moment] => Ok((Port::Acct, number(moment)?, stray(alloc)?)),
         _ => Err("an unknown call")?,
     }
+}
+
+/// The port, the moment and the octets of an Access-Request.
+fn ask_at(
+    alloc: Global,
+    moment: &str,
+    name: &str,
+    id: &str,
+    station: Option<&str>,
+) -> Result<(Port, u64, Vec<u8>), Fail> {
+    let octets = ask_of(alloc, name, octet(id)?, &[0; 16], station)?;
+    Ok((Port::Auth, number(moment)?, octets))
 }
 
 /// The word of the answer to a datagram.
@@ -301,6 +315,14 @@ cuts of three shards | 3 | 1 \
     | open 3/2 ask 0 b 1/1 stray 1/cut 1/0 expire 60/cut 0/2 ask 60 b 2/report | everything \
     | 3, Accept(0), Account, (0, 1), Ok(()), (0, 2), Accept(1), held(1, 1), \
     (0, 0, 2)(0, 2, 0)(1, 0, 1)(1, 1, 2)(2, 0, 1)Ok(())Ok(())Ok(())
+a device that dials again, and a repeat | 1 | 1 \
+    | open 2/0 ask 0 a 1 d/1 ask 1 a 2 d/0 ask 2 a 3 e/1 ask 3 a 1 d/report | everything \
+    | 2, Accept(0), Accept(1), LimitReject, Accept(0), held(0, 1), (0, 0, 4)Ok(())
+restarts that are told late | 2 | 1 \
+    | open 2/0 ask 0 a 1/1 ask 5 b 1/1 on 8 5/report/0 ask 8 a 2/0 ask 8 b 2/0 on 10 5/report \
+    | everything \
+    | 2, Accept(0), Accept(0), Account, held(1, 1), Accept(1), LimitReject, Account, held(0, 1), \
+    (0, 0, 4)(1, 0, 4)Ok(())Ok(())
 a limit, and a repeat | 1 | 1 | open 3/0 ask 0 a 1/1 ask 9 a 1/2 ask 10 a 2/report | everything \
     | 3, Accept(0), Accept(0), LimitReject, held(0, 1), (0, 0, 3)Ok(())
 ",

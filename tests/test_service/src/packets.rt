@@ -9,7 +9,7 @@ use std::alloc::Global;
 use std::test::Fail;
 
 /// The access server's secret.
-const SECRET: &[u8] = b"xyzzy5461";
+const SECRET: &[u8] = b"xyzzy5461xyzzy5461";
 
 /// The access server.
 pub(crate) const SOURCE: Source = Source {
@@ -17,16 +17,19 @@ pub(crate) const SOURCE: Source = Source {
     port: 1024,
 };
 
-/// The accounts `a`, `b`, `c` and `d`, with PLACES each in SHARDS shards.
+/// The accounts `a`, `b`, `c` and `d`, with PLACES each in SHARDS shards. They count by stations, and
+/// delays of restarts count.
 const FILE: &str = r#"
-version = 1
+version = 3
 shards = SHARDS
 reserve_secs = 60
 live_secs = 900
 grace_secs = 900
 closed_secs = 3600
 keep_secs = 10
-client = [{ address = "192.168.1.16", secret = "xyzzy5461" }]
+station = true
+delay_time = true
+client = [{ address = "192.168.1.16", secret = "xyzzy5461xyzzy5461", signed = false }]
 account = [
     { name = "a", password = "pw", places = PLACES, ports = 1 },
     { name = "b", password = "pw", places = PLACES, ports = 1 },
@@ -49,17 +52,35 @@ pub(crate) fn ask(
     id: u8,
     authenticator: &[u8; 16],
 ) -> Result<Vec<u8>, Fail> {
+    ask_of(alloc, name, id, authenticator, None)
+}
+
+/// The same of a station, if it names one.
+pub(crate) fn ask_of(
+    alloc: Global,
+    name: &str,
+    id: u8,
+    authenticator: &[u8; 16],
+    station: Option<&str>,
+) -> Result<Vec<u8>, Fail> {
     let hidden = hide(alloc, b"pw", SECRET, authenticator)?;
     let mut draft = Draft::new(alloc, id)?;
     draft.push(1, name.as_bytes())?;
     draft.push(2, &hidden)?;
     draft.push(32, b"n")?;
+    if let Some(station) = station {
+        draft.push(31, station.as_bytes())?;
+    }
     Ok(draft.finish(1, authenticator))
 }
 
-/// An Accounting-Request of the access server alone: it has restarted.
-pub(crate) fn on(alloc: Global) -> Result<Vec<u8>, Fail> {
-    accounting(Draft::new(alloc, 1)?, 7)
+/// An Accounting-On, with an Acct-Delay-Time of `delay` seconds if there is one.
+pub(crate) fn on(alloc: Global, delay: Option<u32>) -> Result<Vec<u8>, Fail> {
+    let mut draft = Draft::new(alloc, 1)?;
+    if let Some(delay) = delay {
+        draft.push(41, &delay.to_be_bytes())?;
+    }
+    accounting(draft, 7)
 }
 
 /// An Accounting-Request of a user that is no account's: a session has started.

@@ -310,7 +310,7 @@ fn told_closed<L0: Tally, L1: Tally, L2: Tally, L3: Tally>(
         Ok(closed) => closed,
         Err(fault) => return printed(alloc, &fault),
     };
-    told_lines(alloc, &closed.segments, asks)
+    told_lines(alloc, closed.segments(), asks)
 }
 
 /// Whether these segments have as many lines as asks, and the audit of each shard.

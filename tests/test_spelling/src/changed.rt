@@ -4,7 +4,7 @@
 use crate::draw::{COUNTS, Draw};
 use crate::lived::lived;
 use rld_fields::{ReadFault, push_number};
-use rld_spelling::{Era, Header, push_book, read_books};
+use rld_spelling::{Era, FORMAT_VERSION, Header, push_book, read_books};
 use rsl_session::SavedBook;
 use std::alloc::Global;
 use std::test::Fail;
@@ -244,6 +244,7 @@ fn refused_at(alloc: Global, octets: &mut Vec<u8>, place: usize) -> Result<u64, 
 #[test]
 fn each_octet_of_a_header_changed(rt: HostRuntime) -> Result<(), Fail> {
     let header = Header {
+        format: FORMAT_VERSION,
         era: 1,
         generation: 70_000,
         digest: [0x5a; 16],
@@ -251,8 +252,8 @@ fn each_octet_of_a_header_changed(rt: HostRuntime) -> Result<(), Fail> {
     };
     let mut octets = Vec::new(rt.alloc());
     header.push(&mut octets)?;
-    // Each other version is refused; of a digest every octet is right.
-    assert_eq!(rt; refused_at(rt.alloc(), &mut octets, 0)?, 255);
+    // Each other version is refused, but format 1; of a digest every octet is right.
+    assert_eq!(rt; refused_at(rt.alloc(), &mut octets, 0)?, 254);
     assert_eq!(rt; refused_at(rt.alloc(), &mut octets, 1)?, 255);
     assert_eq!(rt; refused_at(rt.alloc(), &mut octets, 8)?, 0);
     // Of a number's mark nearly every other is refused: the era and the lines have one each.

@@ -51,6 +51,11 @@ impl Draw {
         }
     }
 
+    /// 0, or a number of any size.
+    fn some_number(&mut self) -> u64 {
+        if self.is_so() { 0 } else { self.number() }
+    }
+
     fn is_so(&mut self) -> bool {
         self.below(2) == 0
     }
@@ -106,7 +111,8 @@ impl Draw {
             0 => {
                 let key = self.key();
                 let nas = self.nas(alloc)?;
-                Ok(Act::Ask { key, nas })
+                let station = self.some_octets(alloc)?;
+                Ok(Act::Ask { key, nas, station })
             }
             1 => self.alive(alloc),
             _ => {
@@ -126,11 +132,13 @@ impl Draw {
         let nas = self.nas(alloc)?;
         let session = self.octets(alloc)?;
         let bundle = self.some_octets(alloc)?;
+        let station = self.some_octets(alloc)?;
         Ok(Act::Alive {
             nas,
             session,
             bundle,
             class,
+            station,
         })
     }
 
@@ -154,7 +162,8 @@ impl Draw {
             0 => Ok(Move::Tick { moment }),
             1 => {
                 let nas = self.nas(alloc)?;
-                Ok(Move::Sweep { moment, nas })
+                let delay = self.some_number();
+                Ok(Move::Sweep { moment, nas, delay })
             }
             2 => {
                 let note = self.note(alloc)?;
@@ -178,10 +187,14 @@ impl Draw {
         };
         let nas = self.nas(alloc)?;
         let bundle = self.some_octets(alloc)?;
+        let station = self.some_octets(alloc)?;
+        let opened = self.some_number();
         Ok(SavedLink {
             nas,
             holder,
             bundle,
+            station,
+            opened,
             touched,
         })
     }
@@ -256,7 +269,7 @@ impl Draw {
         })
     }
 
-    // ---- events of one account: access servers, sessions and bundles are few
+    // ---- events of one account: access servers, sessions, bundles and stations are few
 
     /// How many events an account has.
     pub(crate) fn count(&mut self) -> u32 {
@@ -288,6 +301,14 @@ impl Draw {
         Ok(Nas { client, name })
     }
 
+    /// One of four stations, or none.
+    fn few_stations(&mut self, alloc: Global) -> Result<Option<Octets>, NoMemory> {
+        if self.is_so() {
+            return Ok(None);
+        }
+        Ok(Some(self.few(alloc)?))
+    }
+
     fn few_alive(&mut self, alloc: Global) -> Result<Act, NoMemory> {
         let class = if self.is_so() {
             None
@@ -302,11 +323,13 @@ impl Draw {
         } else {
             None
         };
+        let station = self.few_stations(alloc)?;
         Ok(Act::Alive {
             nas,
             session,
             bundle,
             class,
+            station,
         })
     }
 
@@ -315,7 +338,8 @@ impl Draw {
             0..=4 => {
                 let key = self.key();
                 let nas = self.few_nas(alloc)?;
-                Ok(Act::Ask { key, nas })
+                let station = self.few_stations(alloc)?;
+                Ok(Act::Ask { key, nas, station })
             }
             5..=11 => self.few_alive(alloc),
             12..=13 => {
@@ -325,7 +349,8 @@ impl Draw {
             }
             14 => {
                 let nas = self.few_nas(alloc)?;
-                Ok(Act::Sweep { nas })
+                let delay = u64::from(self.below(4)) * 20;
+                Ok(Act::Sweep { nas, delay })
             }
             _ => Ok(Act::Tick),
         }

@@ -57,6 +57,7 @@ fn is_put_back(alloc: Global, book: &Book, saved: &SavedBook) -> Result<bool, Fa
 #[derive(Clone, Copy, Debug)]
 struct Seen {
     links: u64,
+    stations: u64,
     asks: u64,
     swept: u64,
     stops: u64,
@@ -66,7 +67,9 @@ struct Seen {
 impl Seen {
     fn add(&mut self, book: &SavedBook) {
         let swept = book.asks.iter().filter(|ask| ask.swept).count() as u64;
+        let stations = book.links.iter().filter(|link| link.station.is_some());
         self.links = self.links.saturating_add(book.links.len() as u64);
+        self.stations = self.stations.saturating_add(stations.count() as u64);
         self.asks = self.asks.saturating_add(book.asks.len() as u64);
         self.swept = self.swept.saturating_add(swept);
         self.stops = self.stops.saturating_add(book.stops.len() as u64);
@@ -79,6 +82,7 @@ fn books_that_lived_are_put_back(rt: HostRuntime) -> Result<(), Fail> {
     let mut draw = Draw::new(4);
     let mut seen = Seen {
         links: 0,
+        stations: 0,
         asks: 0,
         swept: 0,
         stops: 0,
@@ -93,6 +97,7 @@ fn books_that_lived_are_put_back(rt: HostRuntime) -> Result<(), Fail> {
     }
     let least = seen
         .links
+        .min(seen.stations)
         .min(seen.asks)
         .min(seen.swept)
         .min(seen.stops)

@@ -44,13 +44,22 @@ fn octets_of_headers(rt: HostRuntime) -> Result<(), Fail> {
         &Headers,
         "
 # the format, the rule, the era, the generation, the digest, and the lines
-a header | 01 01 02 fd0100 5a*16 fe000f4240 | \
-Header { era: 2, generation: 256, digest: [90, 90, 90, 90, 90, 90, 90, 90, 90, 90, 90, 90, 90, 90, 90, \
-90], lines: 1000000 }
-another format | 02 01 02 fd0100 5a*16 fe000f4240 | (OtherFormat, 0)
-another rule | 01 02 | (OtherRule, 1)
-a digest that ends early | 01 01 02 03 5a*15 | (CutShort, 4)
-an octet too many | 01 01 02 03 5a*16 00 00 | (Trailing, 21)
+a header | 02 01 02 fd0100 5a*16 fe000f4240 | \
+Header { format: 2, era: 2, generation: 256, digest: [90, 90, 90, 90, 90, 90, 90, 90, 90, 90, 90, 90, \
+90, 90, 90, 90], lines: 1000000 }
+one of format 1 | 01 01 02 fd0100 5a*16 fe000f4240 | \
+Header { format: 1, era: 2, generation: 256, digest: [90, 90, 90, 90, 90, 90, 90, 90, 90, 90, 90, 90, \
+90, 90, 90, 90], lines: 1000000 }
+no format | 00 01 02 fd0100 5a*16 fe000f4240 | (OtherFormat, 0)
+a later format | 03 01 02 fd0100 5a*16 fe000f4240 | (OtherFormat, 0)
+a format of more octets | fd0100 01 02 fd0100 5a*16 fe000f4240 | (OtherFormat, 0)
+format 2 in two octets | fd0002 01 02 fd0100 5a*16 fe000f4240 | (LongNumber, 0)
+another rule | 02 02 | (OtherRule, 1)
+another rule in format 1 | 01 02 | (OtherRule, 1)
+another format and another rule | 03 02 | (OtherFormat, 0)
+a digest that ends early | 02 01 02 03 5a*15 | (CutShort, 4)
+an octet too many | 02 01 02 03 5a*16 00 00 | (Trailing, 21)
+one too many in format 1 | 01 01 02 03 5a*16 00 00 | (Trailing, 21)
 ",
     )
 }

@@ -1,12 +1,14 @@
-//! Books, moves and tables as texts, each in the layout of a derived `Debug`.
+//! Books, moves and tables as texts, each in the layout of a derived `Debug`, but without a station
+//! that is not there, and without an opening or a delay of 0.
 
-use rld_spelling::{Era, EraAccount, EraClient, Header};
+use rld_spelling::{Era, EraAccount, EraClient, Format, Header};
 use rsl_session::{KeptAsk, KeptStop, SavedBook, SavedHolder, SavedLink, Session};
 use rsl_shard::Move;
 use std::alloc::Global;
 use std::test::Fail;
 use test_timelines::{
-    push_event, push_key, push_nas, push_note, push_octets, push_option, push_rules, push_value,
+    push_delay, push_event, push_key, push_nas, push_note, push_octets, push_option, push_rules,
+    push_station, push_value,
 };
 
 /// What stands before an item of a list at this place.
@@ -28,6 +30,10 @@ fn push_link(text: &mut String, link: &SavedLink) -> Result<(), Fail> {
         SavedHolder::Bound(session) => push_octets(text, ", holder: Bound(", session, ")")?,
     }
     push_option(text, ", bundle: ", &link.bundle, "")?;
+    push_station(text, &link.station)?;
+    if link.opened > 0 {
+        push_value(text, ", opened: ", &link.opened, "")?;
+    }
     push_value(text, ", touched: ", &link.touched, " }")
 }
 
@@ -84,9 +90,10 @@ fn push_move(text: &mut String, moved: &Move) -> Result<(), Fail> {
             push_value(text, "Own { account: ", account, ", event: ")?;
             push_event(text, event)?;
         }
-        Move::Sweep { moment, nas } => {
+        Move::Sweep { moment, nas, delay } => {
             push_value(text, "Sweep { moment: ", moment, ", nas: ")?;
             push_nas(text, nas)?;
+            push_delay(text, *delay)?;
         }
         Move::Tick { moment } => push_value(text, "Tick { moment: ", moment, "")?,
         Move::Stray { moment, note } => {
@@ -111,8 +118,12 @@ pub(crate) fn moves_told(alloc: Global, moves: &[Move]) -> Result<String, Fail> 
 
 /// The text of a header.
 pub(crate) fn header_told(alloc: Global, header: &Header) -> Result<String, Fail> {
-    let mut text = String::new(alloc);
-    push_value(&mut text, "Header { era: ", &header.era, "")?;
+    let mut text = String::from_str(alloc, "Header { format: ")?;
+    text.push_str(match header.format {
+        Format::One => "1",
+        Format::Two => "2",
+    })?;
+    push_value(&mut text, ", era: ", &header.era, "")?;
     push_value(&mut text, ", generation: ", &header.generation, "")?;
     push_value(&mut text, ", digest: ", &header.digest, "")?;
     push_value(&mut text, ", lines: ", &header.lines, " }")?;

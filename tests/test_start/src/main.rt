@@ -18,8 +18,8 @@ use reloads::reloads;
 use rld_folder::Folder;
 use rolls::rolls;
 use server::{
-    OTHERS, OURS, cut_books, each_kind, frame_as_id, late_login, login, record, record_both, say,
-    say_if_there, tick,
+    OTHERS, OURS, cut_books, each_kind, frame_as_id, late_login, late_restarts, login, record,
+    record_both, say, say_if_there, stations, stations_again, tick,
 };
 use std::{fs, io};
 
@@ -33,6 +33,7 @@ fn main(rt: HostRuntime) -> io::Result<()> {
     begins_anew_after_a_crash(&rt)?;
     refuses_a_generation_alone(&rt)?;
     prints_each_kind(&rt)?;
+    keeps_stations(&rt)?;
     tells_lengths_from_names(&rt)?;
     rolls(&rt)?;
     changes(&rt)?;
@@ -111,6 +112,15 @@ fn prints_each_kind(rt: &HostRuntime) -> io::Result<()> {
     copy(rt, "printed/log-1-1", "printed/log-1-9")?;
     print(rt, "printed", 9)?;
     fs::remove_file(rt, "printed/log-1-9")
+}
+
+/// The lines of a log with stations and delays, and what goes on of them in the next generations.
+fn keeps_stations(rt: &HostRuntime) -> io::Result<()> {
+    record(rt, "stationed", stations(rt)?, 1000)?;
+    print(rt, "stationed", 1)?;
+    say(rt, "after moves of stations", "stationed", OURS, 1010)?;
+    record(rt, "stationed", stations_again(rt)?, 1011)?;
+    record(rt, "stationed", late_restarts(rt)?, 1012)
 }
 
 /// A spoilt length: of a snapshot, of a batch in the middle, and of the last one. Then a torn batch in

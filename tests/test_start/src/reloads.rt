@@ -5,10 +5,11 @@ use crate::files::copy;
 use crate::rolls::list;
 use crate::server::pacing;
 use rld_config::Archive;
-use rld_folder::{Folder, Generation};
-use rld_log::Ticks;
+use rld_folder::Folder;
+use rld_log::{MemoryLog, Ticks};
+use rld_spelling::{FORMAT_VERSION, Header};
 use rld_start::{
-    FolderGenerations, Generations, NextEra, Started, admitted_books, generation_named,
+    FolderGenerations, Generations, NextEra, Started, Written, admitted_books, generation_named,
     has_same_clients, is_same_era, sessions_in,
 };
 use rld_store::Store;
@@ -66,7 +67,7 @@ fn begin_era(rt: &HostRuntime, running: Started<'_>, old: &Config, new: &Config)
     } = running;
     let generations = FolderGenerations::new(rt, folder, Archive::Keep, None);
     let former = generation_named(&header);
-    let Ok(next) = generations.next_era(rt.alloc(), new, boot) else {
+    let Ok(next) = generations.next_era(rt.alloc(), former.era, new, boot) else {
         return println!(rt; "no era");
     };
     let ticks = Ticks::new();
@@ -74,6 +75,7 @@ fn begin_era(rt: &HostRuntime, running: Started<'_>, old: &Config, new: &Config)
         header,
         log,
         blanks,
+        ..
     } = next.paced(pacing(&ticks));
     let Ok(books) = admitted_books(rt.alloc(), old, former, store.books(), new, blanks) else {
         return println!(rt; "no books");
@@ -81,9 +83,7 @@ fn begin_era(rt: &HostRuntime, running: Started<'_>, old: &Config, new: &Config)
     let Ok(store) = Store::begin_with(rt.alloc(), new, header, books, log) else {
         return println!(rt; "no store");
     };
-    let is_synced = generations
-        .sync(rt.alloc(), generation_named(&header))
-        .is_ok();
+    let is_synced = generations.sync(rt.alloc(), Written::by(&store)).is_ok();
     let Ok(rows) = store.rows(rt.alloc()) else {
         return Err(io::Error::from(ErrorKind::OutOfMemory));
     };
@@ -109,12 +109,31 @@ fn keeps_tables_of_logs(rt: &HostRuntime) -> io::Result<()> {
     put_away(rt, "none", Archive::Nothing, 0)
 }
 
+/// What a store writes whose generation is the second one of era 2.
+fn newest_written(rt: &HostRuntime) -> io::Result<Option<Written>> {
+    let header = Header {
+        format: FORMAT_VERSION,
+        era: 2,
+        generation: 2,
+        digest: [0; 16],
+        lines: 0,
+    };
+    let config = accounts(rt, "before")?;
+    let log = MemoryLog::new(rt.alloc(), Vec::new(rt.alloc()), Vec::new(rt.alloc()))?;
+    match Store::begin(rt.alloc(), &config, header, log) {
+        Ok(store) => Ok(Some(Written::by(&store))),
+        Err(_) => Ok(None),
+    }
+}
+
 /// Puts old logs away as an archive is kept, and says which files are left.
 fn put_away(rt: &HostRuntime, how: &str, archive: Archive, now: u64) -> io::Result<()> {
     let Ok(folder) = Folder::open(rt, rt.alloc(), FOLDER) else {
         return println!(rt; "{how}: no folder");
     };
-    let newest = Generation { era: 2, number: 2 };
+    let Some(newest) = newest_written(rt)? else {
+        return println!(rt; "{how}: no store");
+    };
     match FolderGenerations::new(rt, folder, archive, None).put_away(rt.alloc(), newest, now) {
         Ok(()) => println!(rt; "{how}: put away")?,
         Err(fault) => println!(rt; "{how}: {fault}")?,

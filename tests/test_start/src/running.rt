@@ -4,7 +4,9 @@ use crate::server::{OURS, pacing, started};
 use rld_config::Archive;
 use rld_log::{FileLog, PacedLog, Pacing, Ticks};
 use rld_spelling::Header;
-use rld_start::{FolderGenerations, Generations, NextLog, Started, next_header};
+use rld_start::{
+    FolderGenerations, Generations, NextLog, Started, Written, generation_named, next_header,
+};
 use rld_store::Store;
 use rsl_shard::Move;
 use std::{fs, io};
@@ -66,12 +68,13 @@ impl<'a> Running<'a> {
     /// Goes on in the next generation, after `moves` moves of this one, and says in which. In its
     /// log these octets stand already.
     pub fn roll(&mut self, rt: &HostRuntime, moves: u64, octets: &str) -> io::Result<()> {
-        let next = match self.generations.next_log(rt.alloc(), self.header.era) {
+        let present = generation_named(&self.header);
+        let next = match self.generations.next_log(rt.alloc(), present) {
             Ok(next) => next,
             Err(fault) => return println!(rt; "no next log: {fault}"),
         };
-        let NextLog { generation, log } = next.paced(self.pacing);
-        let number = generation.number;
+        let NextLog { key, log } = next.paced(self.pacing);
+        let number = key.generation().number;
         fs::write(
             rt,
             format!(in rt.alloc(); "rolled/log-1-{number}")?.as_str(),
@@ -90,7 +93,7 @@ impl<'a> Running<'a> {
             }
             Err(refused) => {
                 drop(refused.log);
-                let is_gone = self.generations.remove(rt.alloc(), generation).is_ok();
+                let is_gone = self.generations.remove(rt.alloc(), key).is_ok();
                 println!(rt;
                     "no {}-{number}: {}; gone: {is_gone}",
                     header.era, refused.fault
@@ -101,10 +104,7 @@ impl<'a> Running<'a> {
 
     /// Puts old logs away at this second, and says where it fails.
     pub fn put_away(&self, rt: &HostRuntime, now: u64) -> io::Result<()> {
-        let newest = rld_folder::Generation {
-            era: self.header.era,
-            number: self.header.generation,
-        };
+        let newest = Written::by(&self.store);
         match self.generations.put_away(rt.alloc(), newest, now) {
             Ok(()) => println!(rt; "put away"),
             Err(fault) => println!(rt; "put away: {fault}"),

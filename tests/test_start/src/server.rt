@@ -119,7 +119,10 @@ pub fn cut_books(rt: &HostRuntime, folder: &str, accounts: &str, now: u64) -> io
     match rebase(rt, rt.alloc(), &config, folder, now) {
         Ok(done) => println!(rt;
             "rebased at {now}: {}-{}, moments {}; era {}",
-            done.from.era, done.from.number, done.moments, done.era
+            done.from().era,
+            done.from().number,
+            done.moments(),
+            done.era()
         ),
         Err(fault) => println!(rt;
             "rebased at {now}: {fault}; status {}",
@@ -151,6 +154,18 @@ fn nas_at(rt: &HostRuntime, client: u32, name: &[u8]) -> io::Result<Nas> {
 
 /// An Access-Request of an account, by way of a client.
 pub fn ask(rt: &HostRuntime, account: u32, client: u32, id: u8, moment: u64) -> io::Result<Move> {
+    ask_of(rt, account, client, id, None, moment)
+}
+
+/// The same of a station, if it names one.
+fn ask_of(
+    rt: &HostRuntime,
+    account: u32,
+    client: u32,
+    id: u8,
+    station: Option<Octets>,
+    moment: u64,
+) -> io::Result<Move> {
     let key = Key {
         source: Source {
             address: [10, 0, 0, 1],
@@ -162,6 +177,7 @@ pub fn ask(rt: &HostRuntime, account: u32, client: u32, id: u8, moment: u64) -> 
     let act = Act::Ask {
         key,
         nas: nas_at(rt, client, b"nas1")?,
+        station,
     };
     Ok(Move::Own {
         account,
@@ -183,6 +199,7 @@ pub fn alive(
         session: octets(rt, session)?,
         bundle: None,
         class,
+        station: None,
     };
     Ok(Move::Own {
         account,
@@ -223,6 +240,7 @@ fn bundled(rt: &HostRuntime, moment: u64) -> io::Result<Move> {
         session: octets(rt, b"")?,
         bundle: Some(octets(rt, b"b\\1")?),
         class: None,
+        station: None,
     };
     Ok(Move::Own {
         account: 1,
@@ -281,13 +299,67 @@ pub fn each_kind(rt: &HostRuntime) -> io::Result<Vec<Move>> {
     moves.push(ask(rt, 1, 0, 9, 1004)?)?;
     moves.push(bundled(rt, 1005)?)?;
     moves.push(stop(rt, 1006)?)?;
-    moves.push(Move::Sweep {
-        moment: 1007,
-        nas: nas(rt, b"nas1")?,
-    })?;
+    moves.push(late(rt, 0, 1007)?)?;
     moves.push(Move::Tick { moment: 1008 })?;
     moves.push(stray(rt, 1009)?)?;
     Ok(moves)
+}
+
+/// An Access-Request of the second account, which has one place, of a station.
+fn stationed(rt: &HostRuntime, id: u8, station: &[u8], moment: u64) -> io::Result<Move> {
+    ask_of(rt, 1, 0, id, Some(octets(rt, station)?), moment)
+}
+
+/// A restart that is told this many seconds late.
+fn late(rt: &HostRuntime, delay: u64, moment: u64) -> io::Result<Move> {
+    Ok(Move::Sweep {
+        moment,
+        nas: nas(rt, b"nas1")?,
+        delay,
+    })
+}
+
+/// What comes of two stations, and of restarts that are told late: a session gets another station with
+/// its Start, and yields to that; a restart ends what is as old as it.
+pub fn stations(rt: &HostRuntime) -> io::Result<Vec<Move>> {
+    let act = Act::Alive {
+        nas: nas(rt, b"nas1")?,
+        session: octets(rt, b"s1")?,
+        bundle: None,
+        class: Some(0),
+        station: Some(octets(rt, b"\xffb")?),
+    };
+    let start = Move::Own {
+        account: 1,
+        event: Event { moment: 1002, act },
+    };
+    Ok(vec![in rt.alloc();
+        stationed(rt, 7, b"00-10 a", 1001)?,
+        start,
+        stationed(rt, 8, b"\xffb", 1003)?,
+        late(rt, 3600, 1004)?,
+        stationed(rt, 9, b"00-10 a", 1005)?,
+        late(rt, 2, 1005)?,
+        stationed(rt, 10, b"\xffb", 1006)?,
+    ]?)
+}
+
+/// What comes of them in the next generation: the link has its station.
+pub fn stations_again(rt: &HostRuntime) -> io::Result<Vec<Move>> {
+    Ok(vec![in rt.alloc();
+        stationed(rt, 11, b"\xffb", 1007)?,
+        stationed(rt, 12, b"00-10 a", 1008)?,
+    ]?)
+}
+
+/// What comes in the one after that: the link has its opening.
+pub fn late_restarts(rt: &HostRuntime) -> io::Result<Vec<Move>> {
+    Ok(vec![in rt.alloc();
+        late(rt, 4, 1010)?,
+        stationed(rt, 13, b"00-10 a", 1010)?,
+        late(rt, 4, 1011)?,
+        stationed(rt, 14, b"00-10 a", 1011)?,
+    ]?)
 }
 
 /// A Start whose session id is a whole frame of a log.

@@ -2,7 +2,7 @@
 
 use crate::server::*;
 use rld_log::MemoryLog;
-use rld_store::{Opened, Store, StoreFault};
+use rld_store::{Opened, RecordFault, Recorder, Store, StoreFault};
 use rsl_event::Decision;
 use rsl_session::{SavedHolder, SavedLink};
 use rsl_shard::Move;
@@ -13,7 +13,7 @@ use test_rows::octets_of;
 /// The frames of a header, of a snapshot of two new books, and of the tick at 1700000000, with the
 /// digests that `md5sum` prints.
 const GENERATION: &str = "
-00000015 e54aa2c4b9d7c9d40f7e1771d28edc67 01 01 01 01 00*16 00
+00000015 6f285a3faba7555c77ac6023436ae692 02 01 01 01 00*16 00
 0000000d 9a0f7a47ff16017b2519beda93a25b2d 02 00*12
 00000007 ec4ec432ae2a3724607f8bfccdedcb29 01 05 fe 6553f100
 ";
@@ -161,6 +161,47 @@ fn refuse<R: Abort + AllocGlobal>(
     match store.commit(alloc, batch) {
         Ok(_) => return Err("recorded")?,
         Err(fault) => assert_eq!(rt; fault, StoreFault::Unfit),
+    }
+    Ok(())
+}
+
+/// A batch that was prepared with the accounts of another era is refused, and leaves nothing. One of
+/// no era is recorded in any.
+#[test]
+fn a_batch_of_another_era_is_refused(rt: HostRuntime) -> Result<(), Fail> {
+    let alloc = rt.alloc();
+    let mut store = begun(alloc, &[])?;
+    for other in [0, 2] {
+        let batch = vec![in alloc; ask(0, 1)]?;
+        match store.record(alloc, Some(other), batch) {
+            Ok(_) => return Err("recorded")?,
+            Err(fault) => assert_eq!(rt; fault, RecordFault::Failed),
+        }
+    }
+    check_held(&rt, &store, [0, 0])?;
+    assert_eq!(rt; store.log().octets().len(), 74);
+    record_in(
+        &rt,
+        &mut store,
+        Some(HEADER.era),
+        ask(0, 1),
+        Decision::Accept(0),
+    )?;
+    record_in(&rt, &mut store, None, tick(200), Decision::Done)
+}
+
+/// Has a store record one move of this era, and checks the decision on it.
+fn record_in<R: Abort + AllocGlobal>(
+    rt: &R,
+    store: &mut Store<MemoryLog>,
+    era: Option<u64>,
+    moved: Move,
+    wanted: Decision,
+) -> Result<(), Fail> {
+    let batch = vec![in rt.alloc(); moved]?;
+    match store.record(rt.alloc(), era, batch) {
+        Ok(recorded) => assert_eq!(rt; recorded.decisions(), [wanted].as_slice()),
+        Err(_) => return Err("not recorded")?,
     }
     Ok(())
 }

@@ -11,7 +11,10 @@ use std::test::Fail;
 use test_rows::octets_of;
 
 /// The payload of a header.
-const HEAD: &str = "01 01 01 01 00*16 00";
+const HEAD: &str = "02 01 01 01 00*16 00";
+
+/// That of one of format 1.
+const FIRST_HEAD: &str = "01 01 01 01 00*16 00";
 
 /// The payload of a snapshot of two new books.
 const NEW: &str = "02 00*12";
@@ -56,12 +59,14 @@ fn misfit(fault: ServerFault) -> StoreFault {
 fn a_log_without_a_snapshot_is_not_begun(rt: HostRuntime) -> Result<(), Fail> {
     let alloc = rt.alloc();
     assert_eq!(rt; fault_of(alloc, &[])?, Some(StoreFault::Unbegun));
-    let head = frames(alloc, &[HEAD])?;
-    assert_eq!(rt; fault_of(alloc, &head)?, Some(StoreFault::Unbegun));
-    let both = frames(alloc, &[HEAD, NEW])?;
-    let torn = fault_of(alloc, &both[..both.len().saturating_sub(1)])?;
-    assert_eq!(rt; torn, Some(StoreFault::Unbegun));
-    assert_eq!(rt; fault_of(alloc, &both)?, None);
+    for head in [HEAD, FIRST_HEAD] {
+        let alone = frames(alloc, &[head])?;
+        assert_eq!(rt; fault_of(alloc, &alone)?, Some(StoreFault::Unbegun));
+        let both = frames(alloc, &[head, NEW])?;
+        let torn = fault_of(alloc, &both[..both.len().saturating_sub(1)])?;
+        assert_eq!(rt; torn, Some(StoreFault::Unbegun));
+        assert_eq!(rt; fault_of(alloc, &both)?, None);
+    }
     Ok(())
 }
 
@@ -83,15 +88,19 @@ fn payloads_that_spell_nothing(rt: HostRuntime) -> Result<(), Fail> {
     // the payload of the header begins at octet 20, that of the snapshot at 61, the batches at 94 and 115
     let rows = [
         (
-            ["02 01 01 01 00*16 00", NEW, "00", "00"],
+            ["00 01 01 01 00*16 00", NEW, "00", "00"],
             malformed(20, Cause::OtherFormat),
         ),
         (
-            ["01 02 01 01 00*16 00", NEW, "00", "00"],
+            ["03 01 01 01 00*16 00", NEW, "00", "00"],
+            malformed(20, Cause::OtherFormat),
+        ),
+        (
+            ["02 02 01 01 00*16 00", NEW, "00", "00"],
             malformed(21, Cause::OtherRule),
         ),
         (
-            ["01 01 01 01 00*16 00 00", NEW, "00", "00"],
+            ["02 01 01 01 00*16 00 00", NEW, "00", "00"],
             malformed(41, Cause::Trailing),
         ),
         (
@@ -103,10 +112,15 @@ fn payloads_that_spell_nothing(rt: HostRuntime) -> Result<(), Fail> {
             [HEAD, NEW, "01 03 07 02 00 02 00", "00"],
             malformed(97, Cause::NoAccount),
         ),
-        ([HEAD, NEW, "01 09", "00"], malformed(95, Cause::UnknownTag)),
+        ([HEAD, NEW, "01 0a", "00"], malformed(95, Cause::UnknownTag)),
         (
-            [HEAD, NEW, "00", "01 09"],
+            [HEAD, NEW, "00", "01 0a"],
             malformed(116, Cause::UnknownTag),
+        ),
+        // a late sweep whose delay is 0
+        (
+            [HEAD, NEW, "01 09 07 00 02 00", "00"],
+            malformed(99, Cause::OutOfRange),
         ),
     ];
     for (payloads, fault) in rows {

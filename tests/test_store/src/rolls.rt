@@ -2,7 +2,7 @@
 
 use crate::server::*;
 use rld_log::{Ending, Life, MemoryLog};
-use rld_spelling::Header;
+use rld_spelling::{FORMAT_VERSION, Header};
 use rld_store::{Opened, Store, StoreFault};
 use rsl_event::Decision;
 use std::alloc::Global;
@@ -11,6 +11,7 @@ use std::test::Fail;
 
 /// The header of the second generation.
 const SECOND: Header = Header {
+    format: FORMAT_VERSION,
     era: 1,
     generation: 2,
     digest: [0; 16],

@@ -1,7 +1,7 @@
 //! A server of two accounts with one place each, in two shards, and what happens to it.
 
 use rld_log::{Crash, Ending, Life, MemoryLog};
-use rld_spelling::Header;
+use rld_spelling::{FORMAT_VERSION, Header};
 use rld_store::{Opened, Refused, Store, read_frames};
 use rsl_account_file::read_config;
 use rsl_accounts::Config;
@@ -22,6 +22,7 @@ account = [\n\
 
 /// The header of the first generation.
 pub const HEADER: Header = Header {
+    format: FORMAT_VERSION,
     era: 1,
     generation: 1,
     digest: [0; 16],
@@ -60,12 +61,16 @@ pub fn ask(account: u32, id: u8) -> Move {
         account,
         event: Event {
             moment: 100,
-            act: Act::Ask { key, nas: nas() },
+            act: Act::Ask {
+                key,
+                nas: nas(),
+                station: None,
+            },
         },
     }
 }
 
-/// A session of an account that goes on at second 101.
+/// A session of an account that goes on at second 101, of the device `d`.
 pub fn alive(alloc: Global, account: u32, session: &[u8], class: u64) -> Result<Move, Fail> {
     Ok(Move::Own {
         account,
@@ -76,6 +81,7 @@ pub fn alive(alloc: Global, account: u32, session: &[u8], class: u64) -> Result<
                 session: Octets::from_slice(alloc, session)?,
                 bundle: None,
                 class: Some(class),
+                station: Some(Octets::from_slice(alloc, b"d")?),
             },
         },
     })

@@ -4,10 +4,10 @@
 //! default. The line of an event is one of these, where a NAS is a NAS-Identifier, after `CLIENT:`
 //! where it is not at client 0:
 //!
-//! - `ask MOMENT NAS ID [port=PORT]`
-//! - `alive MOMENT NAS SESSION [multi=BUNDLE] [class=NUMBER]`
+//! - `ask MOMENT NAS ID [port=PORT] [station=STATION]`
+//! - `alive MOMENT NAS SESSION [multi=BUNDLE] [class=NUMBER] [station=STATION]`
 //! - `stop MOMENT NAS SESSION`
-//! - `sweep MOMENT NAS`
+//! - `sweep MOMENT NAS [delay=SECONDS]`
 //! - `tick MOMENT`
 //!
 //! What stands after ` -> ` tells what is expected of the event, and is not read here. It is for
@@ -24,8 +24,8 @@ use rsl_wire::Octets;
 use std::alloc::Global;
 use std::test::Fail;
 pub use written::{
-    push_act, push_event, push_key, push_nas, push_note, push_octets, push_option, push_rules,
-    push_value,
+    push_act, push_delay, push_event, push_key, push_nas, push_note, push_octets, push_option,
+    push_rules, push_station, push_value,
 };
 
 /// The rules of a line: one place and one port a place, where it does not tell them.
@@ -95,11 +95,12 @@ fn word_at<'a>(words: &[&'a str], at: usize) -> Result<&'a str, Fail> {
 
 fn act_of(alloc: Global, words: &[&str]) -> Result<Act, Fail> {
     match words {
-        ["ask", _, nas, id, ..] => ask_of(nas_of(alloc, nas)?, id, told(words, "port=")),
+        ["ask", _, nas, id, ..] => ask_of(alloc, nas, id, words),
         ["alive", _, nas, session, ..] => alive_of(alloc, nas, session, words),
         ["stop", _, nas, session] => stop_of(alloc, nas, session),
-        ["sweep", _, nas] => Ok(Act::Sweep {
+        ["sweep", _, nas, ..] => Ok(Act::Sweep {
             nas: nas_of(alloc, nas)?,
+            delay: told(words, "delay=").unwrap_or("0").parse()?,
         }),
         ["tick", _] => Ok(Act::Tick),
         _ => Err("an unknown event")?,
@@ -116,34 +117,39 @@ fn told<'a>(words: &[&'a str], name: &str) -> Option<&'a str> {
     None
 }
 
-fn ask_of(nas: Nas, id: &str, port: Option<&str>) -> Result<Act, Fail> {
+fn ask_of(alloc: Global, nas: &str, id: &str, words: &[&str]) -> Result<Act, Fail> {
     let source = Source {
         address: [192, 168, 1, 16],
-        port: port.unwrap_or("1024").parse()?,
+        port: told(words, "port=").unwrap_or("1024").parse()?,
     };
     let key = Key {
         source,
         id: id.parse()?,
         authenticator: [0; 16],
     };
-    Ok(Act::Ask { key, nas })
+    let station = optional_of(alloc, told(words, "station="))?;
+    let nas = nas_of(alloc, nas)?;
+    Ok(Act::Ask { key, nas, station })
 }
 
 fn alive_of(alloc: Global, nas: &str, session: &str, words: &[&str]) -> Result<Act, Fail> {
     let class = class_of(told(words, "class="))?;
-    let bundle = bundle_of(alloc, told(words, "multi="))?;
+    let bundle = optional_of(alloc, told(words, "multi="))?;
+    let station = optional_of(alloc, told(words, "station="))?;
     let nas = nas_of(alloc, nas)?;
     Ok(Act::Alive {
         nas,
         session: octets_of(alloc, session)?,
         bundle,
         class,
+        station,
     })
 }
 
-fn bundle_of(alloc: Global, id: Option<&str>) -> Result<Option<Octets>, Fail> {
-    match id {
-        Some(id) => Ok(Some(octets_of(alloc, id)?)),
+/// The octets of a word that need not be there.
+fn optional_of(alloc: Global, word: Option<&str>) -> Result<Option<Octets>, Fail> {
+    match word {
+        Some(word) => Ok(Some(octets_of(alloc, word)?)),
         None => Ok(None),
     }
 }

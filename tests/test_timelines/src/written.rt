@@ -1,5 +1,6 @@
-//! Rules, access servers and events as texts, each in the layout of a derived `Debug`. The types
-//! themselves have none, since no server prints them so.
+//! Rules, access servers and events as texts, each in the layout of a derived `Debug`, but without
+//! a station that is not there and without a delay of 0. The types themselves have none, since no
+//! server prints them so.
 
 use rsl_accounts::Rules;
 use rsl_event::{Act, Event, Key, Nas, NasName, Note};
@@ -46,6 +47,22 @@ pub fn push_option(
     Ok(())
 }
 
+/// Adds a station to a text, and nothing where there is none.
+pub fn push_station(text: &mut String, station: &Option<Octets>) -> Result<(), Fail> {
+    match station {
+        Some(station) => push_octets(text, ", station: ", station, ""),
+        None => Ok(()),
+    }
+}
+
+/// Adds the delay of a restart to a text, and nothing where it is 0.
+pub fn push_delay(text: &mut String, delay: u64) -> Result<(), Fail> {
+    match delay {
+        0 => Ok(()),
+        _ => push_value(text, ", delay: ", &delay, ""),
+    }
+}
+
 /// Adds rules to a text.
 pub fn push_rules(text: &mut String, rules: &Rules) -> Result<(), Fail> {
     push_value(text, "Rules { places: ", &rules.places, "")?;
@@ -84,32 +101,36 @@ pub fn push_key(text: &mut String, key: &Key) -> Result<(), Fail> {
 /// Adds what happened to a text.
 pub fn push_act(text: &mut String, act: &Act) -> Result<(), Fail> {
     match act {
-        Act::Ask { key, nas } => {
+        Act::Ask { key, nas, station } => {
             text.push_str("Ask { key: ")?;
             push_key(text, key)?;
             text.push_str(", nas: ")?;
             push_nas(text, nas)?;
+            push_station(text, station)?;
         }
         Act::Alive {
             nas,
             session,
             bundle,
             class,
+            station,
         } => {
             text.push_str("Alive { nas: ")?;
             push_nas(text, nas)?;
             push_octets(text, ", session: ", session, "")?;
             push_option(text, ", bundle: ", bundle, "")?;
             push_value(text, ", class: ", class, "")?;
+            push_station(text, station)?;
         }
         Act::Stop { nas, session } => {
             text.push_str("Stop { nas: ")?;
             push_nas(text, nas)?;
             push_octets(text, ", session: ", session, "")?;
         }
-        Act::Sweep { nas } => {
+        Act::Sweep { nas, delay } => {
             text.push_str("Sweep { nas: ")?;
             push_nas(text, nas)?;
+            push_delay(text, *delay)?;
         }
         Act::Tick => return Ok(text.push_str("Tick")?),
     }

@@ -91,6 +91,8 @@ fn links_of(alloc: Global, words: &str) -> Result<Vec<SavedLink>, Fail> {
             },
             holder,
             bundle: None,
+            station: None,
+            opened: 0,
             touched: number(words.next().unwrap_or(""))?,
         })?;
     }

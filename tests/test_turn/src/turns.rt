@@ -126,7 +126,7 @@ pub(crate) fn served<W: Watch>(
     let mut datagrams = MemoryPeers::new(alloc, coming, numbers_of(alloc, scene.failing)?);
     let mut clock = clock_of(scene.clock)?;
     let networks = networks_of(alloc)?;
-    let present = Present::new(config, networks.as_slice(), 1);
+    let present = Present::new(config, networks.as_slice(), 1, 1);
     let mut receiver = Receiver::new(alloc, port_of(scene.port)?)?;
     let mut counts = [0; 7];
     for _ in 0..number(scene.turns)? {
@@ -277,6 +277,36 @@ fn turns_over_what_waits(rt: HostRuntime) -> Result<(), Fail> {
 #[test]
 fn turns_over_as_many_as_they_take(rt: HostRuntime) -> Result<(), Fail> {
     check_rows(&rt, &Crowds, CROWDS)
+}
+
+/// Has a store take a turn over one ask, with accounts of this era. The store is of era 1.
+fn turn_in_era(
+    alloc: Global,
+    config: &Config,
+    store: &mut Store<MemoryLog>,
+    era: u64,
+) -> Result<Turn, Fail> {
+    let networks = networks_of(alloc)?;
+    let present = Present::new(config, networks.as_slice(), 1, era);
+    let mut datagrams = MemoryPeers::new(alloc, coming_of(alloc, "ask")?, numbers_of(alloc, "")?);
+    let mut receiver = Receiver::new(alloc, Port::Auth)?;
+    let mut clock = clock_of("5 1")?;
+    Ok(receiver.turn(&present, &mut datagrams, store, &mut clock, &mut Unwatched))
+}
+
+#[test]
+fn a_turn_of_another_era_is_not_recorded(rt: HostRuntime) -> Result<(), Fail> {
+    let alloc = rt.alloc();
+    let config = config_of(alloc, "1")?;
+    let mut store = store_of(alloc, &config, "")?;
+    let other = turn_in_era(alloc, &config, &mut store, 2)?;
+    assert!(rt; other.recorded.is_none());
+    assert_eq!(rt; other.ends.unrecorded, 1);
+    let own = turn_in_era(alloc, &config, &mut store, 1)?;
+    assert!(rt; own.recorded.is_some());
+    assert_eq!(rt; own.ends.answered, 1);
+    assert_eq!(rt; batches_of(alloc, &config, &left_by(store))?.len(), 1);
+    Ok(())
 }
 
 /// A tick is a batch of its own, at the moment that the clock shows.

@@ -268,6 +268,75 @@ fn what_version_3_leaves_out_is_safe(rt: HostRuntime) -> Result<(), Fail> {
     check_rows(&rt, &SafeRows, strict(rt.alloc(), rows)?.as_str())
 }
 
+/// Whether the first account counts by stations, and whether a delay counts, or the fault.
+struct StationRows;
+
+impl Subject for StationRows {
+    fn found(&self, alloc: Global, fields: &[&str]) -> Result<String, Fail> {
+        let text = file_of(alloc, fields)?;
+        match read_config(alloc, text.as_bytes()) {
+            Ok(config) => station_and_delay(alloc, &config),
+            Err(fault) => shown(alloc, &fault),
+        }
+    }
+}
+
+fn station_and_delay(alloc: Global, config: &Config) -> Result<String, Fail> {
+    let _accounts = config.accounts();
+    printed(
+        alloc,
+        &(config.counts_stations(0), config.heeds_delay_time()),
+    )
+}
+
+/// In version 3 an account has its own `station`, else that of the head, and `delay_time` stands at
+/// the head alone. Versions 1 and 2 pass over both.
+#[test]
+fn stations_and_delays_are_those_of_version_3(rt: HostRuntime) -> Result<(), Fail> {
+    let rows = r#"
+        neither | <3> | <16> | (false, false)
+        stations | <3> | <16> | <station> true\n | (true, false)
+        no stations | <3> | <16> | <station> false\n | (false, false)
+        of the account | <3> | <16> | => station = true\n | (true, false)
+        not of the account | <3> | <16> | => station = false\n | (false, false)
+        of the head, and not of the account | <3> | <16> | <station> true\n | => station = false\n | (false, false)
+        the other way | <3> | <16> | <station> false\n | => station = true\n | (true, false)
+        of both | <3> | <16> | <station> true\n | => station = true\n | (true, false)
+        of another account | <3> | <16> | => <second>station = true\n | (false, false)
+        delays | <3> | <16> | <delay> true\n | (false, true)
+        no delays | <3> | <16> | <delay> false\n | (false, false)
+        stations and delays | <3> | <16> | <station> true\ndelay_time = true\n | (true, true)
+        in version 2 | <2> | <station> true\ndelay_time = true\n | => station = true\n | (false, false)
+        in version 1 | <station> true\ndelay_time = true\n | => station = true\n | (false, false)
+        wrong in version 2 | <2> | <station> 1\ndelay_time = 1\n | => station = 1\n | (false, false)
+        wrong in version 1 | <station> 1\ndelay_time = 1\n | => station = 1\n | (false, false)
+        a number | <3> | <16> | <station> 1\n | BadValue station
+        a text | <3> | <16> | <station> "true"\n | BadValue station
+        a list | <3> | <16> | <station> [true]\n | BadValue station
+        a number of an account | <3> | <16> | => station = 1\n | BadValue station
+        a text of an account | <3> | <16> | => station = "true"\n | BadValue station
+        a number for delays | <3> | <16> | <delay> 1\n | BadValue delay_time
+        a text for delays | <3> | <16> | <delay> "true"\n | BadValue delay_time
+        stations before delays | <3> | <16> | <delay> 1\nstation = 1\n | BadValue station
+        after interim_secs | <3> | <16> | <station> 1\ninterim_secs = 59\n | BadValue interim_secs
+        before port_limit | <3> | <16> | <delay> 1\nport_limit = 1\n | BadValue delay_time
+        before the clients | <3> | <delay> 1\n | BadValue delay_time
+        after its own times | <3> | <16> | => station = 1\nlive_secs = 0\n | BadValue live_secs
+        before disabled | <3> | <16> | => disabled = 1\nstation = 1\n | BadValue station
+        delays of an account | <3> | <16> | => delay_time = true\n | Unknown account "delay_time"
+        stations of a client | <3> | <16> | 5461"\n => 5461"\nstation = true\n | Unknown client "station"
+    "#;
+    let words = r#"<station> = keep_secs = 10\n => keep_secs = 10\nstation =
+<delay> = keep_secs = 10\n => keep_secs = 10\ndelay_time =
+<second> = \n[[account]]\nname = "b"\npassword = "p"\nplaces = 1\nports = 1\n"#;
+    let rows = replaced(rt.alloc(), rows, words)?;
+    check_rows(
+        &rt,
+        &StationRows,
+        strict(rt.alloc(), rows.as_str())?.as_str(),
+    )
+}
+
 /// A reader that gives a text seven octets at a time. Then it fails, or is at its end.
 #[derive(Drop)]
 struct Sevens<'a> {

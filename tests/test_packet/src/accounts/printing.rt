@@ -36,6 +36,8 @@ fn faults_are_printed_with_the_key_of_their_field(rt: HostRuntime) -> Result<(),
         ConfigFault::BadValue(Field::OwnLive),
         ConfigFault::BadValue(Field::OwnGrace),
         ConfigFault::BadValue(Field::InterimSecs),
+        ConfigFault::BadValue(Field::Station),
+        ConfigFault::BadValue(Field::DelayTime),
         ConfigFault::BadValue(Field::Disabled),
         ConfigFault::BadValue(Field::Trusted),
         ConfigFault::BadValue(Field::Disconnect),
@@ -51,7 +53,8 @@ fn faults_are_printed_with_the_key_of_their_field(rt: HostRuntime) -> Result<(),
         BadValue address, BadValue secret, BadValue signed, BadValue name, BadValue password, \
         BadValue places, BadValue ports, BadValue service_type, BadValue framed_protocol, \
         BadValue session_timeout, BadValue idle_timeout, BadValue live_secs, BadValue grace_secs, \
-        BadValue interim_secs, BadValue disabled, BadValue trusted, BadValue disconnect, Missing port, \
+        BadValue interim_secs, BadValue station, BadValue delay_time, BadValue disabled, \
+        BadValue trusted, BadValue disconnect, Missing port, \
         Unknown \"shard\", Unknown client \"sigend\", Unknown disconnect \"prot\", Unknown account \"a \\\"b\\\"\", ";
     let found = all_shown(rt.alloc(), &faults)?;
     assert_eq!(rt; found.as_str(), expected);

@@ -27,7 +27,7 @@ impl Subject for CopyRows {
 fn copied(alloc: Global, meaning: &Meaning) -> Result<String, Fail> {
     match meaning {
         Meaning::Own { act, .. } => act_copied(alloc, act),
-        Meaning::Restart { nas } => nas_copied(alloc, nas),
+        Meaning::Restart { nas, .. } => nas_copied(alloc, nas),
         Meaning::Stray(note) => note_copied(alloc, note),
         Meaning::Bare | Meaning::Reject => Err("nothing to copy")?,
     }

@@ -41,7 +41,7 @@ pub(crate) fn difference(
 /// Hands an event to a book, a sweep and a tick by the calls of their names.
 fn call(alloc: Global, book: &mut Book, event: &Event) -> Result<Decision, NoMemory> {
     match &event.act {
-        Act::Sweep { nas } => book.sweep(event.moment, nas),
+        Act::Sweep { nas, delay } => book.sweep(event.moment, nas, *delay),
         Act::Tick => book.tick(event.moment),
         _ => return Ok(book.apply(event.try_copy(alloc)?)),
     }
@@ -126,12 +126,58 @@ impl Account {
     ) -> Result<bool, NoMemory> {
         let did = outcome(alloc, rules, &self.history, event)?;
         found.note(did);
+        self.note_kinds(alloc, rules, found, event, did)?;
         self.note(alloc, event, did)?;
         let decided = self.book.apply(event.try_copy(alloc)?);
         let called = call(alloc, &mut self.called, event)?;
         self.decisions.push(decided)?;
         let decides = decided == decision(did) && decided == called;
         Ok(decides && self.shows_as_the_rule(alloc, rules)?)
+    }
+
+    /// Notes whether a station decides what an ask does, and whether a sweep leaves what came after the
+    /// restart.
+    fn note_kinds(
+        &self,
+        alloc: Global,
+        rules: &Rules,
+        found: &mut Found,
+        event: &Event,
+        did: Outcome,
+    ) -> Result<(), NoMemory> {
+        match &event.act {
+            Act::Ask {
+                key,
+                nas,
+                station: Some(_),
+            } => {
+                let act = Act::Ask {
+                    key: *key,
+                    nas: nas.try_copy(alloc)?,
+                    station: None,
+                };
+                let moment = event.moment;
+                let without = outcome(alloc, rules, &self.history, &Event { moment, act })?;
+                found.note_station(did, without);
+            }
+            Act::Sweep { nas, delay } => {
+                let (mut late, mut prompt) = (
+                    self.book.try_copy(alloc)?,
+                    self.book.try_copy(alloc)?,
+                );
+                // what has lapsed by then is no part of it
+                let mut before = self.book.try_copy(alloc)?;
+                before.tick(event.moment);
+                late.sweep(event.moment, nas, *delay);
+                prompt.sweep(event.moment, nas, 0);
+                let [before, left, without] = [before, late, prompt].map(|book| book
+                    .stored()
+                    .links);
+                found.note_sweep(before, left, without);
+            }
+            _ => {}
+        }
+        Ok(())
     }
 
     /// Puts an event after the others, with what it did.

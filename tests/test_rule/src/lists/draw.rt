@@ -107,7 +107,8 @@ impl Draw {
             authenticator: [0; 16],
         };
         let nas = self.nas(alloc)?;
-        Ok(Act::Ask { key, nas })
+        let station = self.station(alloc)?;
+        Ok(Act::Ask { key, nas, station })
     }
 
     fn alive(&mut self, alloc: Global) -> Result<Act, NoMemory> {
@@ -116,6 +117,7 @@ impl Draw {
             session: self.session(alloc)?,
             bundle: self.bundle(alloc)?,
             class: self.class(),
+            station: self.station(alloc)?,
         })
     }
 
@@ -126,14 +128,32 @@ impl Draw {
         })
     }
 
-    /// A sweep is rare, as it ends so much.
+    /// A sweep that is told at once is rare, as it ends so much.
     fn sweep(&mut self, alloc: Global) -> Result<Act, NoMemory> {
-        if self.below(3) > 0 {
+        let delay = self.delay();
+        if delay < 2 && self.below(2) > 0 {
             return self.alive(alloc);
         }
-        Ok(Act::Sweep {
-            nas: self.nas(alloc)?,
-        })
+        let nas = self.nas(alloc)?;
+        Ok(Act::Sweep { nas, delay })
+    }
+
+    /// How late a sweep is told: by about as much as links are old, or by more than any is.
+    fn delay(&mut self) -> u64 {
+        match self.below(8) {
+            0 => u64::MAX,
+            1 => 0,
+            _ => u64::from(self.below(6)),
+        }
+    }
+
+    /// One of two stations, so that links of one account are often of the same one, or none.
+    fn station(&mut self, alloc: Global) -> Result<Option<Octets>, NoMemory> {
+        match self.below(4) {
+            0 => Ok(Some(Octets::from_slice(alloc, b"a")?)),
+            1 => Ok(Some(Octets::from_slice(alloc, b"b")?)),
+            _ => Ok(None),
+        }
     }
 
     fn nas(&mut self, alloc: Global) -> Result<Nas, NoMemory> {

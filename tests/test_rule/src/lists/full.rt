@@ -109,6 +109,7 @@ fn alive(alloc: Global, moment: u64, link: u64) -> Result<Event, NoMemory> {
         session: session_of(alloc, link)?,
         bundle: Some(Octets::from_slice(alloc, b"m")?),
         class: None,
+        station: None,
     };
     Ok(Event { moment, act })
 }

@@ -3,7 +3,7 @@
 use super::draw::Draw;
 use rsl_accounts::Rules;
 use rsl_book::{Book, RestoreFault};
-use rsl_session::SavedBook;
+use rsl_session::{SavedBook, SavedLink};
 use rsl_wire::NoMemory;
 use std::alloc::Global;
 
@@ -14,6 +14,10 @@ pub(crate) struct Held {
     pub bundled: u64,
     /// A link that was not touched at the clock.
     pub untouched: u64,
+    /// A link that was touched after it opened.
+    pub renewed: u64,
+    /// A link that has a station.
+    pub stationed: u64,
     /// An ask or a stop whose access server was swept since.
     pub swept: u64,
     /// An alive that was over.
@@ -26,6 +30,8 @@ impl Held {
         Held {
             bundled: 0,
             untouched: 0,
+            renewed: 0,
+            stationed: 0,
             swept: 0,
             over: 0,
         }
@@ -35,6 +41,8 @@ impl Held {
     pub(crate) fn least(&self) -> u64 {
         self.bundled
             .min(self.untouched)
+            .min(self.renewed)
+            .min(self.stationed)
             .min(self.swept)
             .min(self.over)
     }
@@ -42,12 +50,7 @@ impl Held {
     /// Notes what a saved book has.
     fn note(&mut self, saved: &SavedBook) {
         for link in &saved.links {
-            if link.bundle.is_some() {
-                self.bundled = self.bundled.saturating_add(1);
-            }
-            if link.touched != saved.clock {
-                self.untouched = self.untouched.saturating_add(1);
-            }
+            self.note_link(link, saved.clock);
         }
         for ask in &saved.asks {
             self.swept = self.swept.saturating_add(u64::from(ask.swept));
@@ -56,6 +59,16 @@ impl Held {
             self.swept = self.swept.saturating_add(u64::from(stop.swept));
         }
         self.over = self.over.saturating_add(u64::from(saved.over > 0));
+    }
+
+    /// Notes what a link of a book at this clock has.
+    fn note_link(&mut self, link: &SavedLink, clock: u64) {
+        let (is_bundled, is_stationed) = (link.bundle.is_some(), link.station.is_some());
+        let (is_untouched, is_renewed) = (link.touched != clock, link.opened != link.touched);
+        self.bundled = self.bundled.saturating_add(u64::from(is_bundled));
+        self.stationed = self.stationed.saturating_add(u64::from(is_stationed));
+        self.untouched = self.untouched.saturating_add(u64::from(is_untouched));
+        self.renewed = self.renewed.saturating_add(u64::from(is_renewed));
     }
 }
 
