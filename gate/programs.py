@@ -12,6 +12,18 @@ def is_unproved():
     return os.environ.get("PROGRAMS") == "unproved"
 
 
+def patience(seconds):
+    """How long is waited for what takes so many seconds at most on a proved program. A build that is not proved checks each
+    access and runs beside much else: there it may take ten times as long."""
+    return 10 * seconds if is_unproved() else seconds
+
+
+def in_time(name, seconds, most, least=0):
+    """A row: whether something took a right number of seconds. Of a build that is not proved nobody asks that."""
+    if not is_unproved():
+        yield name, least <= seconds < most, True
+
+
 def path_of(name):
     """The path of a program. It ends the script where the proved one is not there."""
     if is_unproved() or name not in repository.product():

@@ -12,6 +12,9 @@ import time
 
 from gate import repository
 
+# the octets that the check of a crate takes at most; most take a third of it
+LARGEST = 5_000_000_000
+
 SUMMARY = re.compile(r"(\d+) passed, (\d+) failed")
 # what `rt ci` says as soon as it has proved a crate, or knows that an earlier run has
 PROVED = re.compile(r"^rt: (\w+)(?: proved| is kept: .*)$")
@@ -62,12 +65,27 @@ class Progress:
         return f"{len(self.proved)} of {len(self.lines)} crates are proved after {spent / 60:.1f} minutes{rest}"
 
 
+def crates_at_once():
+    """How many crates are proved at once: one a processor, as far as memory holds them."""
+    with open("/proc/meminfo", encoding="ascii") as file:
+        free = next(int(line.split()[1]) for line in file if line.startswith("MemAvailable:"))
+    return max(1, min(len(os.sched_getaffinity(0)), free * 1024 // LARGEST))
+
+
+def from_nothing():
+    """The word by which `rt ci` takes nothing that an earlier run passed, for a kit that keeps any of that."""
+    told = subprocess.run(["rt", "help"], capture_output=True, text=True, check=False)
+    return ["--anew"] * ("--anew" in told.stdout + told.stderr)
+
+
 def run_gate(folder, anew, hear):
     """Runs `rt ci` in a folder, and hands on each line that it prints: what passed and failed."""
-    words, last = ["rt", "ci", *["--anew"] * anew], ""
+    words, last = ["rt", "ci", *(from_nothing() if anew else [])], ""
+    # it reckons several times the memory that a crate high up takes, and would prove these one by one
+    environment = {"RT_JOBS": str(crates_at_once())} | os.environ
     with subprocess.Popen(
-        words, cwd=folder, stdin=subprocess.DEVNULL, stdout=subprocess.PIPE, stderr=subprocess.STDOUT, text=True,
-        errors="replace",
+        words, cwd=folder, env=environment, stdin=subprocess.DEVNULL, stdout=subprocess.PIPE, stderr=subprocess.STDOUT,
+        text=True, errors="replace",
     ) as run:
         for line in run.stdout:
             # its last line is told as a part of something larger
