@@ -5,7 +5,8 @@ use Rattle.rld_counts.specs.declared.end.End.{End}
 use Rattle.rld_counts.specs.declared.kind.Kind.{Kind}
 use Rattle.rld_counts.specs.declared.kind.Kind.TheVariants as kinds
 use Rattle.rsl_event.specs.Request.{nas_name_of}
-use Rattle.rsl_event.specs.declared.codes.TheConstants.{NAS_IDENTIFIER, NAS_IP_ADDRESS, USER_NAME}
+use Rattle.rsl_event.specs.Station.{if_station}
+use Rattle.rsl_event.specs.declared.codes.TheConstants.{CALLING_STATION_ID, NAS_IDENTIFIER, NAS_IP_ADDRESS, USER_NAME}
 use Rattle.rsl_wire.specs.Attributes.{Attribute, attribute_list, first_of}
 use Rattle.rsl_wire.specs.Packet.{Fields, packet_of}
 use Rattle.rsl_wire.specs.declared.packet.WireFault.{WireFault}
@@ -37,7 +38,7 @@ attributes_by (Err fault) = []
 abbrev pub attributes_of : (octets : List ℕ) → List Attribute
 attributes_of octets = attributes_by (packet_of octets)
 
--- the refusal of a datagram with these attributes
+-- the refusal of a datagram with these attributes: its station is told whatever its account says of stations
 abbrev pub refusal_with : Refused → List Attribute → Refusal
 refusal_with refused attributes = record {
   moment = refused.moment;
@@ -46,6 +47,7 @@ refusal_with refused attributes = record {
   client = refused.client;
   nas = nas_name_of (first_of NAS_IDENTIFIER attributes) (first_of NAS_IP_ADDRESS attributes);
   name = first_of USER_NAME attributes;
+  station = if_station (first_of CALLING_STATION_ID attributes);
   end = refused.end;
 }
 

@@ -1,10 +1,13 @@
 ghost use Rattle.std.specs.Prelude.{◌≡◌, [], IfOk};
 ghost use Rattle.rsl_event.specs.Occurrences.{value_of};
 ghost use Rattle.rsl_event.specs.Request.{nas_name_of};
+ghost use Rattle.rsl_event.specs.Station.{if_station};
 ghost use Rattle.rld_look.specs.Refusal.{is_refusal, refusal_of, refusal_with};
 
 use rld_counts::{End, Kind};
-use rsl_event::codes::{NAS_IDENTIFIER, NAS_IP_ADDRESS, USER_NAME};
+use rsl_event::codes::{
+    CALLING_STATION_ID, MAX_STATION_LEN, NAS_IDENTIFIER, NAS_IP_ADDRESS, USER_NAME,
+};
 use rsl_event::{NasName, Source};
 use rsl_wire::{Attrs, NoMemory, Octets, read};
 use std::alloc::Global;
@@ -44,6 +47,10 @@ pub struct Refusal {
     /// The first User-Name (RFC 2865 section 5.1), if the datagram's attributes can be read and
     /// there is one.
     pub name: Option<Octets>,
+    /// The device that it names: the first Calling-Station-Id (RFC 2865 section 5.31), if the
+    /// datagram's attributes can be read and that has 1 to 64 octets. It is told whether or not the
+    /// account counts by stations.
+    pub station: Option<Octets>,
     /// How it ended.
     pub end: End,
 }
@@ -73,6 +80,7 @@ impl Refusal {
             client: self.client,
             nas: self.nas.try_copy(alloc)?,
             name: Octets::try_copy_option(alloc, &self.name)?,
+            station: Octets::try_copy_option(alloc, &self.station)?,
             end: self.end,
         })
     }
@@ -101,6 +109,7 @@ fn bare(refused: &Refused<'_>) -> Refusal
         client: refused.client,
         nas: NasName::Unnamed,
         name: None,
+        station: None,
         end: refused.end,
     }
 }
@@ -120,6 +129,7 @@ fn named(alloc: Global, refused: &Refused<'_>, attributes: &Attrs<'_>) -> Result
             attributes.first(NAS_IP_ADDRESS),
         )?,
         name: copied(alloc, attributes.first(USER_NAME))?,
+        station: station(alloc, attributes.first(CALLING_STATION_ID))?,
         end: refused.end,
     })
 }
@@ -139,6 +149,18 @@ fn nas_name(
         (None, Some(address)) => NasName::Address(Octets::from_slice(alloc, address)?),
         (None, None) => NasName::Unnamed,
     })
+}
+
+/// The device that a Calling-Station-Id names: its octets, if it has 1 to 64.
+fn station(alloc: Global, value: Option<&[u8]>) -> Result<Option<Octets>, NoMemory>
+    ensures { IfOk result (λ station. station ≡ if_station (value_of value.entry)) }
+{
+    match value {
+        Some(value) if !value.is_empty() && value.len() <= MAX_STATION_LEN => {
+            Ok(Some(Octets::from_slice(alloc, value)?))
+        }
+        _ => Ok(None),
+    }
 }
 
 /// A copy of the octets, if there are any.

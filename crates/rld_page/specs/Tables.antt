@@ -182,7 +182,8 @@ client_text None source peer = ip_text peer
 unfoldable pub refusal_front : (dates : ℕ → List ℕ) → Refusal → List ℕ
 refusal_front dates refusal =
     codes "<tr><td><time>" ++ (moment_text dates refusal.moment
-    ++ (codes "</time></td><td class=\"name\">" ++ name_or_dash refusal.name))
+    ++ (codes "</time></td><td class=\"name\">" ++ (name_or_dash refusal.name
+    ++ (codes "</td><td class=\"name more\">" ++ name_or_dash refusal.station))))
 
 unfoldable pub refusal_end : Refusal → List ℕ
 refusal_end refusal =
@@ -201,8 +202,9 @@ refusal_rows dates (refusal ∷ refusals) = refusal_rows dates refusals ++ refus
 unfoldable pub refused_table : (dates : ℕ → List ℕ) → List Refusal → List ℕ
 refused_table dates refusals =
     codes "<div class=\"wide\"><table class=\"lately\"><thead><tr><th scope=\"col\">Time</th><th scope=\"col\">Account</th>"
-    ++ (codes "<th scope=\"col\">Cause</th><th scope=\"col\">Client</th><th scope=\"col\">Access server</th>"
-    ++ (codes "</tr></thead><tbody>\n" ++ (refusal_rows dates refusals ++ table_end)))
+    ++ (codes "<th scope=\"col\" class=\"more\">Station</th><th scope=\"col\">Cause</th>"
+    ++ (codes "<th scope=\"col\">Client</th><th scope=\"col\">Access server</th></tr></thead><tbody>\n"
+    ++ (refusal_rows dates refusals ++ table_end)))
 
 abbrev pub refused_if_any : (dates : ℕ → List ℕ) → List Refusal → List ℕ
 refused_if_any dates refusals =
@@ -211,7 +213,7 @@ refused_if_any dates refusals =
 
 unfoldable pub refused_of : (dates : ℕ → List ℕ) → List Refusal → List ℕ
 refused_of dates refusals =
-    codes "<section class=\"most\"><div class=\"top\"><h2>Refused lately</h2><p class=\"soft\">times are UTC</p></div>\n"
+    codes "<section><div class=\"top\"><h2>Refused lately</h2><p class=\"soft\">times are UTC</p></div>\n"
     ++ refused_if_any dates refusals
 
 -- ---- the sockets
@@ -224,7 +226,7 @@ socket_row socket =
 
 unfoldable pub sockets_table : List SocketLook → List ℕ
 sockets_table sockets =
-    codes "<section class=\"rest\"><div class=\"top\"><h2>Sockets</h2></div>\n<div class=\"wide\"><table><thead><tr>"
+    codes "<section><div class=\"top\"><h2>Sockets</h2></div>\n<div class=\"wide\"><table><thead><tr>"
     ++ (codes "<th scope=\"col\">UDP port</th><th scope=\"col\" class=\"n\">Octets waiting</th>"
     ++ (codes "<th scope=\"col\" class=\"n\">Dropped, no room</th></tr></thead><tbody>\n"
     ++ (flat_map socket_row sockets ++ table_end)))

@@ -27,7 +27,7 @@ fn write_section(html: &mut Html, refusals: &[Refusal]) -> Result<(), AllocError
         html.new ≡ html.old ++ refused_of dates refusals.now) }
 {
     html.markup(
-        "<section class=\"most\"><div class=\"top\"><h2>Refused lately</h2><p class=\"soft\">times are UTC</p></div>\n",
+        "<section><div class=\"top\"><h2>Refused lately</h2><p class=\"soft\">times are UTC</p></div>\n",
     )?;
     write_table_if_any(html, refusals)?;
     Ok(())
@@ -53,10 +53,10 @@ fn write_table(html: &mut Html, refusals: &[Refusal]) -> Result<(), AllocError>
     html.markup(
         "<div class=\"wide\"><table class=\"lately\"><thead><tr><th scope=\"col\">Time</th><th scope=\"col\">Account</th>",
     )?;
+    html.markup("<th scope=\"col\" class=\"more\">Station</th><th scope=\"col\">Cause</th>")?;
     html.markup(
-        "<th scope=\"col\">Cause</th><th scope=\"col\">Client</th><th scope=\"col\">Access server</th>",
+        "<th scope=\"col\">Client</th><th scope=\"col\">Access server</th></tr></thead><tbody>\n",
     )?;
-    html.markup("</tr></thead><tbody>\n")?;
     write_rows(html, refusals)?;
     html.markup("</tbody></table></div></section>\n")?;
     Ok(())
@@ -85,7 +85,7 @@ fn write_refusal(html: &mut Html, refusal: &Refusal) -> Result<(), AllocError>
     Ok(())
 }
 
-/// Writes when it was refused, and which account it asked for.
+/// Writes when it was refused, which account it asked for, and which device it named.
 #[tactic(auto, unfolding(crate::specs::Tables::refusal_front))]
 fn write_front(html: &mut Html, refusal: &Refusal) -> Result<(), AllocError>
     ensures { OnOk result ((dates : ℕ → List ℕ) → AreDates dates →
@@ -95,6 +95,8 @@ fn write_front(html: &mut Html, refusal: &Refusal) -> Result<(), AllocError>
     html.moment(refusal.moment)?;
     html.markup("</time></td><td class=\"name\">")?;
     write_name(html, &refusal.name)?;
+    html.markup("</td><td class=\"name more\">")?;
+    write_name(html, &refusal.station)?;
     Ok(())
 }
 
@@ -124,7 +126,7 @@ fn write_client(html: &mut Html, refusal: &Refusal) -> Result<(), AllocError>
     }
 }
 
-/// Writes the name of an account, if there is one.
+/// Writes the name of an account or of a device, if there is one.
 fn write_name(html: &mut Html, name: &Option<Octets>) -> Result<(), AllocError>
     ensures { OnOk result (html.new ≡ html.old ++ name_or_dash name.now) }
 {

@@ -31,7 +31,7 @@ fn write_table(html: &mut Html, sockets: &[SocketLook]) -> Result<(), AllocError
     ensures { OnOk result (html.new ≡ html.old ++ sockets_table sockets.now) }
 {
     html.markup(
-        "<section class=\"rest\"><div class=\"top\"><h2>Sockets</h2></div>\n<div class=\"wide\"><table><thead><tr>",
+        "<section><div class=\"top\"><h2>Sockets</h2></div>\n<div class=\"wide\"><table><thead><tr>",
     )?;
     html.markup(
         "<th scope=\"col\">UDP port</th><th scope=\"col\" class=\"n\">Octets waiting</th>",

@@ -61,9 +61,9 @@ tfoot td{font-weight:600}\
 table+table{margin-top:16px}\
 footer{padding-top:18px;padding-bottom:32px;font-size:13px}\
 a{color:inherit}\
-@media(min-width:721px){.lately td:nth-child(3){white-space:nowrap}.lately td.name{min-width:6em}}\
+@media(min-width:721px){.lately td.name{min-width:6em}}\
 @media(min-width:960px){.half{grid-column:span 6}.most{grid-column:span 7}.rest{grid-column:span 5}\
-main>.most:last-child{grid-column:1/-1}}\
+.lately td:nth-child(4){white-space:nowrap}}\
 @media(max-width:720px){header,main,footer{padding-left:12px;padding-right:12px}main{gap:12px}\
 .since{margin-left:0;width:100%}section{padding:16px}.wide{margin:0 -16px -4px;padding:0 16px}\
 .numbers{grid-template-columns:repeat(2,minmax(0,1fr));padding:0}.numbers div{padding:14px 16px}\
@@ -73,6 +73,6 @@ dd{font-size:26px}dd small{display:block}svg{height:120px}.more{display:none}\
 .lately thead{position:absolute;width:1px;height:1px;overflow:hidden;clip-path:inset(50%)}\
 .lately tr{display:grid;grid-template:'name time' 'cause from' 'nas nas'/1fr auto;padding:8px 0;border-top:1px solid var(--line)}\
 .lately td{border:0;padding:1px 0;color:var(--soft)}.lately td:nth-child(1){grid-area:time}\
-.lately td:nth-child(2){grid-area:name;color:var(--ink);font-weight:550}.lately td:nth-child(3){grid-area:cause;color:var(--ink)}\
-.lately td:nth-child(4){grid-area:from}.lately td:nth-child(5){grid-area:nas}.lately tr:first-child{border-top:0}}\
+.lately td:nth-child(2){grid-area:name;color:var(--ink);font-weight:550}.lately td:nth-child(4){grid-area:cause;color:var(--ink)}\
+.lately td:nth-child(5){grid-area:from}.lately td:nth-child(6){grid-area:nas}.lately tr:first-child{border-top:0}}\
 ";

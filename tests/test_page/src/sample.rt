@@ -219,7 +219,7 @@ fn server(nas: NasName, reserved: u64, bound: u64, last: u64) -> AccessServerLoo
     }
 }
 
-/// Adds refusals, one of them with a name that is markup.
+/// Adds refusals, one of them with a name and a station that are markup.
 fn add_refusals(alloc: Global, refusals: &mut Vec<Refusal>) -> Result<(), NoMemory> {
     refusals.push(Refusal {
         moment: NOW - 90,
@@ -228,6 +228,7 @@ fn add_refusals(alloc: Global, refusals: &mut Vec<Refusal>) -> Result<(), NoMemo
         client: None,
         nas: NasName::Unnamed,
         name: None,
+        station: None,
         end: End::Auth(AuthEnd::UnknownClient),
     })?;
     refusals.push(Refusal {
@@ -237,6 +238,7 @@ fn add_refusals(alloc: Global, refusals: &mut Vec<Refusal>) -> Result<(), NoMemo
         client: Some(0),
         nas: NasName::Identifier(Octets::from_slice(alloc, b"bras\" onload=\"x")?),
         name: Some(Octets::from_slice(alloc, b"<b>nemo\n\\\xff")?),
+        station: Some(Octets::from_slice(alloc, b"<i>&\"\x00")?),
         end: End::Auth(AuthEnd::WrongPassword),
     })?;
     refusals.push(Refusal {
@@ -246,6 +248,7 @@ fn add_refusals(alloc: Global, refusals: &mut Vec<Refusal>) -> Result<(), NoMemo
         client: Some(0),
         nas: NasName::Address(Octets::from_slice(alloc, &[192, 0, 2, 77])?),
         name: Some(Octets::from_slice(alloc, b"nemo")?),
+        station: Some(Octets::from_slice(alloc, b"00-00-5E-00-53-2A")?),
         end: End::Auth(AuthEnd::LimitReject),
     })?;
     Ok(())
