@@ -1,6 +1,7 @@
 pub mod Beginnings
 pub mod Behind
 pub mod Counted
+pub mod Faults
 pub mod Firsts
 pub mod Founds
 pub mod Gaps

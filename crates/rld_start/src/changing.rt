@@ -1,6 +1,6 @@
 //! An era after one with another account file, with the books admitted from it.
 
-ghost use Rattle.std.specs.Prelude.{◌≡◌, ◌+◌, ◌↔◌, ℕ, map, IfOk, IfSome, IsTrue, Some};
+ghost use Rattle.std.specs.Prelude.{◌≡◌, ◌+◌, ◌↔◌, ℕ, map, IfErr, IfOk, IfSome, IsTrue, Some};
 ghost use Rattle.std.specs.Option.{option_map};
 ghost use Rattle.md5.specs.Md5.{md5};
 ghost use Rattle.rld_admit.specs.Admitted.{AreAdmitted};
@@ -8,6 +8,7 @@ ghost use Rattle.rld_books.specs.Saved.{IsServerOf};
 ghost use Rattle.rld_spelling.specs.Eras.{era_octets};
 ghost use Rattle.rld_spelling.specs.Tables.{account_row, client_row, table_of};
 ghost use Rattle.rld_start.specs.Counted.{AreSessionsOf};
+ghost use Rattle.rld_start.specs.Faults.{IsWhyNotAdmitted};
 ghost use Rattle.rld_start.specs.Going.{Admits};
 ghost use Rattle.rld_start.specs.NextHeaders.{generation_named};
 ghost use Rattle.rld_start.specs.Numbers.{era_of, greatest_by};
@@ -173,6 +174,7 @@ pub fn admitted_books(
     ensures server { IfOk result (λ made. IsServerOf new.now made) }
     ensures admitted { IfOk result (λ made. (boot next : ℕ) →
         AreAdmitted (table_of boot old.now) books.now (table_of next new.now) made) }
+    ensures why { IfErr result (IsWhyNotAdmitted generation) }
 {
     match admit(alloc, old, books, new, blanks) {
         Ok(made) => Ok(made),

@@ -1,6 +1,7 @@
 ghost use Rattle.std.specs.Prelude.{◌≡◌};
+ghost use Rattle.rld_start.specs.Faults.{fault_of_file, fault_of_folder, fault_of_log};
 ghost use Rattle.rld_start.specs.Status.{status_of_folder, status_of_log};
-ghost use Rattle.rld_start.specs.declared.fault.StartFault.TheVariants.{NoMemory as no_memory};
+ghost use Rattle.rld_start.specs.declared.fault.StartFault.TheVariants.{BadLog as bad_log, NoMemory as no_memory};
 
 use crate::status::EndStatus;
 use crate::wrong::{BadLog, Cause, Wrong, write_name};
@@ -42,7 +43,9 @@ impl StartFault {
     ghost use Rattle.rld_start.specs.Status.{status_of};
 
     /// The fault of a damaged file.
-    pub(crate) fn bad(file: FileName, wrong: Wrong) -> StartFault {
+    pub(crate) fn bad(file: FileName, wrong: Wrong) -> StartFault
+        ensures { result ≡ bad_log (record { file = file; wrong = wrong }) }
+    {
         StartFault::BadLog(BadLog { file, wrong })
     }
 
@@ -141,6 +144,8 @@ impl From<NoMemory> for StartFault {
 }
 
 impl From<FolderFault> for StartFault {
+    ghost from_gives = { λ fault made. made ≡ fault_of_folder fault };
+
     fn from(fault: FolderFault) -> StartFault {
         match fault {
             FolderFault::NoMemory => StartFault::NoMemory,
@@ -150,7 +155,9 @@ impl From<FolderFault> for StartFault {
 }
 
 /// The fault of a file that could not be opened, made, read, written or synced.
-pub(crate) fn file_fault(file: FileName, fault: FolderFault) -> StartFault {
+pub(crate) fn file_fault(file: FileName, fault: FolderFault) -> StartFault
+    ensures { result ≡ fault_of_file file fault }
+{
     match fault {
         FolderFault::NoMemory => StartFault::NoMemory,
         _ => StartFault::File(file, fault),
@@ -158,7 +165,9 @@ pub(crate) fn file_fault(file: FileName, fault: FolderFault) -> StartFault {
 }
 
 /// The fault of a log that could not be read, written or synced.
-pub(crate) fn log_fault(file: FileName, fault: LogFault) -> StartFault {
+pub(crate) fn log_fault(file: FileName, fault: LogFault) -> StartFault
+    ensures { result ≡ fault_of_log file fault }
+{
     match fault {
         LogFault::NoMemory => StartFault::NoMemory,
         _ => StartFault::Log(file, fault),

@@ -1,10 +1,9 @@
 //! The front of a log: whether its generation was begun, and its header.
 
-ghost use Rattle.std.specs.Prelude.{◌≡◌, ℕ, List, map, IfErr, IfOk};
+ghost use Rattle.std.specs.Prelude.{◌↔◌, ℕ, List, drop, map, IfErr, IfOk, IsErr};
 ghost use Rattle.rld_log.specs.Frames.{HasPayloads};
-ghost use Rattle.rld_log.specs.declared.fault.Damage.{Damage as OneDamage};
-ghost use Rattle.rld_start.specs.Firsts.{IsFirst, IsSpoilt};
-ghost use Rattle.rld_store.specs.declared.fault.StoreFault.TheVariants.{Damaged as damaged};
+ghost use Rattle.rld_start.specs.Firsts.{IsFirst, IsSpoilt, IsWhyNoFirst};
+ghost use Rattle.rld_start.specs.Lengths.{HasSpoiltLength};
 
 use crate::length::has_spoilt_length;
 use rld_log::{Damage, Frames};
@@ -20,9 +19,10 @@ pub enum First {
     Begun(Header),
 }
 
-/// Checks that what follows the whole frames of a log is a torn end. `Damage` comes if there is a
-/// frame with a spoilt length and its whole payload.
+/// Checks that what follows the whole frames of a log is a torn end. `Damage` comes exactly if there
+/// is a frame with a spoilt length and its whole payload.
 pub fn check_torn(frames: &Frames) -> Result<(), Damage>
+    ensures found { IsErr result ↔ HasSpoiltLength (drop frames.now.whole frames.now.octets.items) }
     ensures spoilt { IfErr result (λ damage. IsSpoilt frames.now.octets.items damage.offset) }
 {
     if has_spoilt_length(frames.torn()) {
@@ -34,12 +34,12 @@ pub fn check_torn(frames: &Frames) -> Result<(), Damage>
 }
 
 impl First {
-    /// The front of a log with these payloads. `Malformed` comes if its generation was begun and
-    /// the header cannot be read.
+    /// The front of a log with these payloads. `Malformed` comes only if its generation was begun and
+    /// the header cannot be read; of the other faults only `TooLong` can.
     pub fn of(payloads: &[&[u8]]) -> Result<First, StoreFault>
         ensures first { IfOk result (λ first. (octets : List ℕ) →
             HasPayloads octets (map (λ payload. payload.now) payloads.now) → IsFirst octets first) }
-        ensures undamaged { IfErr result (λ fault. (damage : OneDamage) → fault ≡ damaged damage → ⊥) }
+        ensures why { IfErr result (IsWhyNoFirst (map (λ payload. payload.now) payloads.now)) }
     {
         match Parts::of(payloads) {
             Ok(parts) => Ok(First::Begun(parts.header.header()?)),
