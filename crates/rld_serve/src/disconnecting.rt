@@ -89,7 +89,7 @@ where
                     Disconnected::Unrecorded
                 }
                 // another account file may have come, with which nothing of it is held
-                Ok(Freed::Done(_) | Freed::NotHeld) | Err(_) => Disconnected::Done,
+                Ok(Freed::Done(_) | Freed::NotHeld(_)) | Err(_) => Disconnected::Done,
             },
             Answer::Nak(cause) => Disconnected::Refused(cause),
         };

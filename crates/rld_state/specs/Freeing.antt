@@ -1,32 +1,29 @@
 -- What comes of a session that is to be freed, or of all those of an access server.
 use Rattle.std.specs.Prelude.{◌≡◌, ⊤, ℕ, Bool, true, false, ◌||◌, List, [], ◌∷◌, ◌++◌, Option, Some, None, codes}
-use Rattle.std.specs.Option.{option_map_or}
 use Rattle.rsl_accounts.specs.Configuration.{Configuration}
 use Rattle.rsl_shard.specs.Restep.{BooksSeen}
 use Rattle.rsl_shard.specs.declared.moved.Move.{Move}
-use Rattle.rld_books.specs.Saved.{links_in}
 use Rattle.rld_books.specs.Server.{replay}
 use Rattle.rld_control.specs.Offs.{IsOffOf, sweep_of}
-use Rattle.rld_control.specs.Stops.{IsStopOf, is_held, move_of}
+use Rattle.rld_control.specs.Stops.{IsStopOf, move_of}
 use Rattle.rld_control.specs.declared.named.NamedServer.{NamedServer}
 use Rattle.rld_control.specs.declared.named.NamedSession.{NamedSession}
 use Rattle.rld_control.specs.declared.off.Off.{Off}
 use Rattle.rld_control.specs.declared.stop.Stop.{Stop}
 use Rattle.rld_look.specs.Totals.{plus}
+use Rattle.rld_state.specs.Held.{is_held_in}
 use Rattle.rld_state.specs.declared.freeing.Freed.{Freed}
 use Rattle.rld_state.specs.declared.freeing.Freed.TheVariants.{Done, NotHeld, Unrecorded}
 
--- whether a link of the Stop's account is bound to the session that it ends
-abbrev pub is_held_in : List BooksSeen → Stop → Bool
-is_held_in books stop = option_map_or (is_held stop) (links_in books stop.account) false
-
--- It is freed only where the books held such a link, and what was recorded after them is its Stop
--- and nothing else. It is not held only where they held none.
+-- A session is freed only where the books held a link that is bound to it, and what was recorded
+-- after them is its Stop and nothing else. It is not held only where they held none; and what says
+-- so is of these books, and of this Stop.
 abbrev pub IsFreedBy : List BooksSeen → Stop → (moment : ℕ) → Freed → Type 0
 IsFreedBy books stop moment (Done recorded) =
     (is_held_in books stop ≡ true)
     × ((recorded.before ≡ books) × (recorded.batch ≡ move_of stop moment ∷ []))
-IsFreedBy books stop moment NotHeld = is_held_in books stop ≡ false
+IsFreedBy books stop moment (NotHeld unheld) =
+    (is_held_in books stop ≡ false) × ((unheld.books ≡ books) × (unheld.stop ≡ stop))
 IsFreedBy books stop moment Unrecorded = is_held_in books stop ≡ true
 
 -- by the Stop of the session that was named
@@ -41,7 +38,7 @@ pub record IsFreed (config : Configuration) (books : List BooksSeen) (named : Na
 abbrev pub AreFreedBy : List BooksSeen → Off → (moment : ℕ) → Freed → Type 0
 AreFreedBy books off moment (Done recorded) =
     (recorded.before ≡ books) × (recorded.batch ≡ sweep_of off moment ∷ [])
-AreFreedBy books off moment NotHeld = ⊥
+AreFreedBy books off moment (NotHeld unheld) = ⊥
 AreFreedBy books off moment Unrecorded = ⊤
 
 -- by the Accounting-Off of the access server that was named
@@ -54,37 +51,37 @@ pub record AreFreed (config : Configuration) (books : List BooksSeen) (named : N
 -- the books after it: they have made what was recorded
 abbrev pub books_after_it : List BooksSeen → Freed → List BooksSeen
 books_after_it books (Done recorded) = replay books recorded.batch
-books_after_it books NotHeld = books
+books_after_it books (NotHeld unheld) = books
 books_after_it books Unrecorded = books
 
 -- the history after it: what was recorded is its end
 abbrev pub history_after_it : List Move → Freed → List Move
 history_after_it history (Done recorded) = history ++ recorded.batch
-history_after_it history NotHeld = history
+history_after_it history (NotHeld unheld) = history
 history_after_it history Unrecorded = history
 
 -- how many moves a generation of `moves` moves has after it
 abbrev pub moves_after_it : (moves : ℕ) → Freed → ℕ
 moves_after_it moves (Done recorded) = plus moves 1
-moves_after_it moves NotHeld = moves
+moves_after_it moves (NotHeld unheld) = moves
 moves_after_it moves Unrecorded = moves
 
 -- a state stays as it was where nothing was to be recorded
 abbrev pub StaysUnheld : {S : Type 0} → (old new : S) → Freed → Type 0
 StaysUnheld old new (Done recorded) = ⊤
-StaysUnheld old new NotHeld = new ≡ old
+StaysUnheld old new (NotHeld unheld) = new ≡ old
 StaysUnheld old new Unrecorded = ⊤
 
 -- where the record failed that is noted: another batch may be recorded, or nothing more can be
 abbrev pub IsNoted : (has_failed has_ended : Bool) → Freed → Type 0
 IsNoted has_failed has_ended (Done recorded) = ⊤
-IsNoted has_failed has_ended NotHeld = ⊤
+IsNoted has_failed has_ended (NotHeld unheld) = ⊤
 IsNoted has_failed has_ended Unrecorded = (has_failed || has_ended) ≡ true
 
 -- what an operator is told of it; nothing where it was not recorded, since then it is not done
 abbrev pub octets_of_freed : Freed → Option (List ℕ)
 octets_of_freed (Done recorded) = Some (codes "freed\nok\n")
-octets_of_freed NotHeld = Some (codes "no such session\nok\n")
+octets_of_freed (NotHeld unheld) = Some (codes "no such session\nok\n")
 octets_of_freed Unrecorded = None
 
 -- a session was freed so, by some books of some accounts at some moment

@@ -2,6 +2,7 @@ pub mod Clock
 pub mod Due
 pub mod Freeing
 pub mod Headers
+pub mod Held
 pub mod Keeping
 pub mod Listing
 pub mod Notices

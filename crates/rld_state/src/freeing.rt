@@ -1,16 +1,18 @@
 //! How the place of a session is freed that its access server has forgotten, by its Stop, or those
 //! of all its sessions, by its Accounting-Off.
 
-ghost use Rattle.std.specs.Prelude.{◌≡◌, ◌∷◌, [], List, IfOk, IsTrue, OnErr};
+ghost use Rattle.std.specs.Prelude.{◌≡◌, ◌↔◌, ◌∷◌, [], List, None, IfOk, IsErrOf, IsTrue, OnErr};
 ghost use Rattle.std.specs.Arc.{arc_value};
 ghost use Rattle.std.specs.Option.{option_map};
 ghost use Rattle.rld_control.specs.Reply.{reply_octets};
-ghost use Rattle.rld_state.specs.Freeing.{AreFreed, AreFreedBy, IsFreed, IsFreedBy, IsNoted, StaysUnheld, books_after_it, history_after_it, is_held_in, moves_after_it, octets_of_freed};
+ghost use Rattle.rld_state.specs.Freeing.{AreFreed, AreFreedBy, IsFreed, IsFreedBy, IsNoted, StaysUnheld, books_after_it, history_after_it, moves_after_it, octets_of_freed};
+ghost use Rattle.rld_state.specs.Held.{is_held_in};
 ghost use Rattle.rld_store.specs.Stored.{HasRecorded};
-ghost use Rattle.rsl_accounts.specs.Configuration.{Configuration};
+ghost use Rattle.rsl_accounts.specs.Configuration.{Configuration, account_number, client_number};
 ghost use Rattle.rsl_shard.specs.Restep.{BooksSeen};
 ghost use Rattle.rsl_shard.specs.declared.moved.Move.{Move as OneMove};
 
+use crate::not_held::NotHeld;
 use crate::state::ServerState;
 use rld_control::{FreeFault, NamedServer, NamedSession, Off, Reply, Stop};
 use rld_log::Log;
@@ -25,7 +27,7 @@ pub enum Freed {
     /// A link was bound to it, and its Stop is recorded; or the restart of the access server is.
     Done(Recorded),
     /// No link is bound to it, so nothing was recorded.
-    NotHeld,
+    NotHeld(NotHeld),
     /// A link is bound to it, and its Stop was not recorded; or the restart was not.
     Unrecorded,
 }
@@ -38,7 +40,7 @@ impl Freed {
     {
         match self {
             Freed::Done(_recorded) => Some(Reply::Done(b"freed\n")),
-            Freed::NotHeld => Some(Reply::Done(b"no such session\n")),
+            Freed::NotHeld(_unheld) => Some(Reply::Done(b"no such session\n")),
             Freed::Unrecorded => None,
         }
     }
@@ -66,6 +68,8 @@ impl<L: Log + Drop> ServerState<L> {
         ensures not_held { IfOk result (StaysUnheld self.old self.new) }
         ensures unrecorded { IfOk result (IsNoted self.new.has_failed self.new.has_ended) }
         ensures err { OnErr result (self.new ≡ self.old) }
+        ensures account { IsErrOf result FreeFault.UnknownAccount ↔
+            (account_number (arc_value self.old.config) named.now.account ≡ None) }
 
         // The store has recorded what it had before, and that Stop.
         ensures stands { IsTrue (L.tells self.new.recorder.log) →
@@ -106,7 +110,8 @@ impl<L: Log + Drop> ServerState<L> {
             self.new.recorder.books (history_after_it history freed)) }
     {
         if !self.holds(alloc, &stop)? {
-            return Ok(Freed::NotHeld);
+            let unheld = NotHeld::of(self.recorder().books(), &stop);
+            return Ok(Freed::NotHeld(unheld));
         }
         let batch = batch_of(alloc, stop.into_move(moment))?;
         let era = self.header().era;
@@ -136,6 +141,8 @@ impl<L: Log + Drop> ServerState<L> {
         ensures config { self.new.config ≡ self.old.config }
         ensures unrecorded { IfOk result (IsNoted self.new.has_failed self.new.has_ended) }
         ensures err { OnErr result (self.new ≡ self.old) }
+        ensures client { IsErrOf result FreeFault.UnknownClient ↔
+            (client_number (arc_value self.old.config) named.now.client ≡ None) }
 
         // The store has recorded what it had before, and that restart.
         ensures stands { IsTrue (L.tells self.new.recorder.log) →
