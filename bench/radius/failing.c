@@ -2,7 +2,8 @@
  * the number of the one that fails (0: every one; -4: the fourth, and every one behind it), ERROR the errno that it
  * gives, PORT the UDP port of its socket (0: any file), and WHILE a file as long as which is there calls are counted and
  * fail (none: always). Every other call goes to the system. SHIFT names a file with the seconds by which the clock is set
- * ahead of the system's (none: 0).
+ * ahead of the system's (none: 0). Of the sleeps of a second or more the first SLEEPS of each thread last a millisecond,
+ * and the next one until a call was counted or the file is there that UNTIL names (none: each lasts as asked).
  * cc -shared -fPIC -o failing.so failing.c */
 #define _GNU_SOURCE
 #include <dlfcn.h>
@@ -94,6 +95,17 @@ int clock_gettime(clockid_t clock, struct timespec *now) {
     int status = syscall(SYS_clock_gettime, clock, now);
     if (!status && clock == CLOCK_REALTIME) now->tv_sec += shift();
     return status;
+}
+
+int nanosleep(const struct timespec *asked, struct timespec *left) {
+    static _Thread_local long slept;
+    const char *until = getenv("UNTIL");
+    const struct timespec moment = {0, 1000000};
+    if (!until || asked->tv_sec < 1 || slept > number("SLEEPS")) return syscall(SYS_nanosleep, asked, left);
+    do syscall(SYS_nanosleep, &moment, NULL);
+    while (slept == number("SLEEPS") && !atomic_load(&calls) && access(until, F_OK));
+    slept++;
+    return 0;
 }
 
 int pthread_create(pthread_t *thread, const pthread_attr_t *how, void *(*work)(void *), void *given) {
