@@ -1,5 +1,8 @@
 -- What the server shows of itself.
+use Rattle.std.specs.Prelude.{Bool, true, false}
 use Rattle.rld_look.specs.declared.look.Look.{Look}
+use Rattle.rld_look.specs.declared.look.Recording.{Recording}
+use Rattle.rld_look.specs.declared.look.Recording.TheVariants.{Recorded, Failing}
 use Rattle.rld_serve.specs.declared.holdings.Rest.{Rest}
 
 -- what a look has besides the counts, what the store shows, and the build
@@ -15,3 +18,8 @@ rest_of look = record {
   refusals = look.refusals;
   sockets = look.sockets;
 }
+
+-- what is said of a server's recording, by whether a batch was not recorded lately
+abbrev pub recording_of : (is_failing : Bool) → Recording
+recording_of true = Failing
+recording_of false = Recorded

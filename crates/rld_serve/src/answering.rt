@@ -1,9 +1,14 @@
 //! Answers to operators. No lock is held while an answer is made of a look, or written.
 
-ghost use Rattle.std.specs.Prelude.{◌≡◌, ◌<◌, IfOk, IfSome, Some, length};
+ghost use Rattle.std.specs.Prelude.{◌≡◌, ◌<◌, IfErr, IfOk, IfSome, Some, length};
 ghost use Rattle.std.specs.Arc.{arc_value};
 ghost use Rattle.rld_control.specs.Reply.{reply_octets};
+ghost use Rattle.rld_control.specs.declared.command.Command.TheVariants.{Disconnect};
 ghost use Rattle.rld_state.specs.Freeing.{TellsFreed, WasFreed, WereFreed, octets_of_freed};
+ghost use Rattle.rld_state.specs.declared.freeing.Freed.TheVariants as outcomes;
+ghost use Rattle.rld_serve.specs.Answering.{IsAnswerTo, IsPageFrom, ShowsAccounts, ShowsSessions};
+ghost use Rattle.rld_serve.specs.declared.ask_fault.AskFault.TheVariants.{NoMemory, Unrecorded};
+ghost use Rattle.rsl_accounts.specs.Configuration.{account_number};
 
 use crate::accounts::Accounts;
 use crate::ask_fault::AskFault;
@@ -84,7 +89,9 @@ where
     }
 
     /// Does a command, and sends the answer, unless that comes later: then it gives the session.
-    fn do_command(&self, operator: &Operator<'_, R>, command: Command) -> Option<NamedSession> {
+    fn do_command(&self, operator: &Operator<'_, R>, command: Command) -> Option<NamedSession>
+        ensures { IfSome result (λ named. command ≡ Disconnect named) }
+    {
         match self.answer_to(command) {
             Ok(Answer::Now(text)) => {
                 operator.answer(text.as_slice());
@@ -99,7 +106,9 @@ where
     }
 
     /// Does a command, and gives the answer.
-    fn answer_to(&self, command: Command) -> Result<Answer, AskFault> {
+    fn answer_to(&self, command: Command) -> Result<Answer, AskFault>
+        ensures { IfOk result (IsAnswerTo command) }
+    {
         let text = match command {
             Command::Status(form) => self.status(form),
             Command::Ready => self.ready(),
@@ -119,9 +128,10 @@ where
         Ok(Answer::Now(text?))
     }
 
-    /// The octets of an answer.
+    /// The octets of an answer. It fails only if memory is refused.
     pub(crate) fn told(&self, reply: Reply<'_>) -> Result<Vec<u8>, AskFault>
-        ensures { IfOk result (λ octets. octets.items ≡ reply_octets reply.entry) }
+        ensures told { IfOk result (λ octets. octets.items ≡ reply_octets reply.entry) }
+        ensures fault { IfErr result (λ fault. fault ≡ NoMemory) }
     {
         let mut octets = Vec::new(self.alloc);
         reply.write(&mut octets)?;
@@ -142,7 +152,9 @@ where
     }
 
     /// The answer to `accounts`.
-    fn accounts(&self, form: Form, selection: Selection) -> Result<Vec<u8>, AskFault> {
+    fn accounts(&self, form: Form, selection: Selection) -> Result<Vec<u8>, AskFault>
+        ensures { IfOk result (λ octets. ShowsAccounts form selection octets.items) }
+    {
         let look = self.accounts_look()?;
         let accounts = look.accounts.as_slice();
         Ok(accounts_text(self.alloc, form, selection, accounts)?)
@@ -154,7 +166,9 @@ where
     }
 
     /// The answer to `sessions`: the links of the account with this name.
-    fn sessions(&self, form: Form, name: &[u8]) -> Result<Vec<u8>, AskFault> {
+    fn sessions(&self, form: Form, name: &[u8]) -> Result<Vec<u8>, AskFault>
+        ensures { IfOk result (λ octets. ShowsSessions form name.now octets.items) }
+    {
         let Some(Held { config, held }) = self.held_by(name)? else {
             return Err(AskFault::UnknownAccount);
         };
@@ -171,7 +185,9 @@ where
 
     /// What the account with this name holds, if there is one.
     fn held_by(&self, name: &[u8]) -> Result<Option<Held>, AskFault>
-        ensures { IfOk result (λ found. IfSome found (λ held.
+        ensures account { IfOk result (λ found. IfSome found (λ held.
+            account_number (arc_value held.config) name.now ≡ Some held.held.account)) }
+        ensures within { IfOk result (λ found. IfSome found (λ held.
             held.held.account < length (arc_value held.config).accounts)) }
     {
         let state = self.state.lock(self.rt);
@@ -197,7 +213,10 @@ where
 
     /// A page of what all accounts hold that begins with the account of this name, or with the
     /// first one. The lock is held while the page is copied, and no longer.
-    fn page_from(&self, from: &Option<Octets>) -> Result<HeldPage, AskFault> {
+    fn page_from(&self, from: &Option<Octets>) -> Result<HeldPage, AskFault>
+        ensures { IfOk result (λ found.
+            IsPageFrom (arc_value found.config) from.now found.page) }
+    {
         let state = self.state.lock(self.rt);
         let config = state.config()?;
         let first = match from {
@@ -214,7 +233,9 @@ where
     /// Frees the place of a session by the Stop that its access server would have sent. If no link
     /// is bound to the session, nothing is recorded.
     fn free(&self, named: &NamedSession) -> Result<Vec<u8>, AskFault>
-        ensures { IfOk result (λ octets. TellsFreed (WasFreed named.now) octets.items) }
+        ensures freed { IfOk result (λ octets. TellsFreed (WasFreed named.now) octets.items) }
+        ensures unrecorded { IfErr result (λ fault. fault ≡ Unrecorded →
+            WasFreed named.now outcomes.Unrecorded) }
     {
         let freed = self.freed(named)?;
         self.told_freed(&freed)
@@ -223,7 +244,9 @@ where
     /// Frees the places of all sessions of an access server by the Accounting-Off that it would have
     /// sent.
     fn free_server(&self, named: &NamedServer) -> Result<Vec<u8>, AskFault>
-        ensures { IfOk result (λ octets. TellsFreed (WereFreed named.now) octets.items) }
+        ensures freed { IfOk result (λ octets. TellsFreed (WereFreed named.now) octets.items) }
+        ensures unrecorded { IfErr result (λ fault. fault ≡ Unrecorded →
+            WereFreed named.now outcomes.Unrecorded) }
     {
         let freed = self.server_freed(named)?;
         self.told_freed(&freed)
@@ -231,7 +254,9 @@ where
 
     /// The answer to what came of that. `Unrecorded` comes where it was not recorded.
     fn told_freed(&self, freed: &Freed) -> Result<Vec<u8>, AskFault>
-        ensures { IfOk result (λ octets. Some octets.items ≡ octets_of_freed freed.now) }
+        ensures freed { IfOk result (λ octets. Some octets.items ≡ octets_of_freed freed.now) }
+        ensures unrecorded { IfErr result (λ fault. fault ≡ Unrecorded →
+            freed.now ≡ outcomes.Unrecorded) }
     {
         match freed.reply() {
             Some(reply) => self.told(reply),
@@ -241,7 +266,8 @@ where
 
     /// Frees the places of all sessions of an access server, and gives the outcome.
     fn server_freed(&self, named: &NamedServer) -> Result<Freed, AskFault>
-        ensures { IfOk result (WereFreed named.now) }
+        ensures freed { IfOk result (WereFreed named.now) }
+        ensures fault { IfErr result (λ fault. fault ≡ Unrecorded → ⊥) }
     {
         let mut state = self.state.lock(self.rt);
         Ok(state.free_server(self.alloc, named, self.moment())?)
@@ -250,7 +276,8 @@ where
     /// Frees the place of a session, and gives the outcome. The lock is held from the look at the accounts and the
     /// links until its Stop is recorded.
     pub(crate) fn freed(&self, named: &NamedSession) -> Result<Freed, AskFault>
-        ensures { IfOk result (WasFreed named.now) }
+        ensures freed { IfOk result (WasFreed named.now) }
+        ensures fault { IfErr result (λ fault. fault ≡ Unrecorded → ⊥) }
     {
         let mut state = self.state.lock(self.rt);
         Ok(state.free(self.alloc, named, self.moment())?)

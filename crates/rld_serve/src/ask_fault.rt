@@ -1,3 +1,7 @@
+ghost use Rattle.std.specs.Prelude.{◌≡◌};
+ghost use Rattle.rld_serve.specs.AskFault.{octets_of_fault};
+ghost use Rattle.rld_serve.specs.declared.ask_fault.AskFault.TheVariants.{Free, NoMemory as no_memory};
+
 use rld_ask::Outcome;
 use rld_control::{DisconnectFault, FreeFault};
 use rsl_wire::NoMemory;
@@ -28,7 +32,9 @@ pub(crate) enum AskFault {
 
 impl AskFault {
     /// The text of the answer.
-    pub(crate) fn text(self) -> &'static str {
+    pub(crate) fn text(self) -> &'static str
+        ensures { result.now ≡ octets_of_fault self }
+    {
         match self {
             AskFault::UnknownCommand => "error unknown command\n",
             AskFault::UnknownAccount | AskFault::Free(FreeFault::UnknownAccount) => {
@@ -51,24 +57,32 @@ impl AskFault {
 }
 
 impl From<FreeFault> for AskFault {
+    ghost from_gives = { λ fault made. made ≡ Free fault };
+
     fn from(fault: FreeFault) -> AskFault {
         AskFault::Free(fault)
     }
 }
 
 impl From<AllocError> for AskFault {
+    ghost from_gives = { λ _ made. made ≡ no_memory };
+
     fn from(_refused: AllocError) -> AskFault {
         AskFault::NoMemory
     }
 }
 
 impl<T: Drop> From<AllocFailed<T>> for AskFault {
+    ghost from_gives = { λ _ made. made ≡ no_memory };
+
     fn from(_refused: AllocFailed<T>) -> AskFault {
         AskFault::NoMemory
     }
 }
 
 impl From<NoMemory> for AskFault {
+    ghost from_gives = { λ _ made. made ≡ no_memory };
+
     fn from(_refused: NoMemory) -> AskFault {
         AskFault::NoMemory
     }

@@ -1,3 +1,5 @@
+ghost use Rattle.std.specs.Prelude.{◌≡◌};
+
 use rld_ask::AskForm;
 use rld_turn::PeerPort;
 use rsl_accounts::Config;
@@ -7,6 +9,8 @@ use std::net::{Ipv4Addr, SocketAddr, SocketAddrV4};
 
 /// The UDP port that the request of each ask comes from, which no datagram of a network has.
 const SOURCE_PORT: u16 = 0;
+
+const _: () = prove!(SOURCE_PORT == 0);
 
 /// The requests of some asks, as a port of datagrams: it gives each once, and keeps what is answered. No call
 /// waits.
@@ -48,7 +52,9 @@ impl AskPort {
     }
 
     /// The replies, in the order in which they were sent.
-    pub(crate) fn into_replies(self) -> Vec<Vec<u8>> {
+    pub(crate) fn into_replies(self) -> Vec<Vec<u8>>
+        ensures { result ≡ self.replies }
+    {
         self.replies
     }
 }

@@ -1,8 +1,11 @@
+ghost use Rattle.std.specs.Prelude.{◌≡◌, [], IfOk, false, true};
+ghost use Rattle.rld_serve.specs.Asking.{said_in};
+
 use rld_ask::Refused;
 use rld_counts::{AskEnd, End as CountedEnd};
 use rld_turn::{End, Ended, MAX_BATCH, Watch};
 use rld_watch::Watcher;
-use rsl_event::Detail;
+use rsl_event::{Detail, Said};
 use std::alloc::{AllocError, Global};
 use std::sync::Wait;
 use std::time::Clock;
@@ -16,6 +19,18 @@ pub(crate) struct Noted {
     pub(crate) detail: Option<Detail>,
 }
 
+impl Noted {
+    /// What was answered to it, if anything was.
+    pub(crate) fn said(&self) -> Option<Said>
+        ensures { result ≡ said_in self.now.end }
+    {
+        match self.end {
+            End::Answered(said) => Some(said),
+            _ => None,
+        }
+    }
+}
+
 /// A watcher of asks: it counts each by its end, and keeps how each request of a turn ended.
 #[derive(Drop)]
 pub(crate) struct AskWatch<'a, R: Wait + Clock> {
@@ -26,10 +41,9 @@ pub(crate) struct AskWatch<'a, R: Wait + Clock> {
 
 impl<'a, R: Wait + Clock> AskWatch<'a, R> {
     /// A watcher that counts by this one. It fails only where memory is refused.
-    pub(crate) fn new(
-        alloc: Global,
-        watcher: Watcher<'a, R>,
-    ) -> Result<AskWatch<'a, R>, AllocError> {
+    pub(crate) fn new(alloc: Global, watcher: Watcher<'a, R>) -> Result<AskWatch<'a, R>, AllocError>
+        ensures { IfOk result (λ watch. (watch.noted.items ≡ []) × (watch.is_whole ≡ true)) }
+    {
         Ok(AskWatch {
             watcher,
             noted: Vec::with_capacity(alloc, MAX_BATCH)?,
@@ -47,7 +61,10 @@ impl<'a, R: Wait + Clock> AskWatch<'a, R> {
     }
 
     /// How each request of the last turn ended, in their order; none where one of them could not be kept.
-    pub(crate) fn noted(&self) -> &[Noted] {
+    pub(crate) fn noted(&self) -> &[Noted]
+        ensures whole { self.now.is_whole ≡ true → result.now ≡ self.now.noted.items }
+        ensures cut { self.now.is_whole ≡ false → result.now ≡ [] }
+    {
         if self.is_whole {
             self.noted.as_slice()
         } else {

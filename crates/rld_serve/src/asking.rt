@@ -1,7 +1,10 @@
 //! Asks of whoever checks logins himself: each is the Access-Request that its client would have sent, and takes
 //! the way of every datagram, in a turn of a receiver.
 
-ghost use Rattle.std.specs.Prelude.{◌≡◌, false, OnOk};
+ghost use Rattle.std.specs.Prelude.{◌≡◌, false, IfErr, IfOk, OnOk, map};
+ghost use Rattle.rld_serve.specs.Answering.{IsUntold, TellsAccepted};
+ghost use Rattle.rld_serve.specs.Asking.{outcome_noted};
+ghost use Rattle.rld_serve.specs.Following.{IsFaultOf};
 
 use crate::accounts::Accounts;
 use crate::ask_fault::AskFault;
@@ -16,7 +19,7 @@ use rld_edges::RunFault;
 use rld_log::{FileLog, PacedLog};
 use rld_start::Generations;
 use rld_state::Told;
-use rld_turn::{End, Receiver, Turn};
+use rld_turn::{Receiver, Turn};
 use rld_watch::{WatchContext, Watcher};
 use rsl_event::Port;
 use rsl_port::{Clock, SystemClock};
@@ -46,6 +49,8 @@ struct Place<'s, 'a, R: Wait + time::Clock> {
 
 /// How many seconds lie between two lines on requests that were refused.
 const TOLD_SECS: u64 = 60;
+
+const _: () = prove!(TOLD_SECS == 60);
 
 /// A server to which asks are put from one thread.
 #[derive(Drop)]
@@ -155,8 +160,10 @@ where
         place: &mut Place<'_, 'a, R>,
         asks: &[AskForm],
     ) -> Result<Vec<Answer>, RunFault>
-        ensures { place.old.recorder.has_ended ≡ false →
+        ensures goes_on { place.old.recorder.has_ended ≡ false →
             OnOk result (place.new.recorder.has_ended ≡ false) }
+        ensures ends { place.old.recorder.has_ended ≡ false →
+            IfErr result (IsFaultOf place.new.recorder.has_ended) }
     {
         let current = self.current.read(self.rt);
         let present = current.present(&self.plan);
@@ -209,7 +216,10 @@ where
     }
 
     /// What an operator is told of an answer.
-    fn told_of(&self, answer: &Answer) -> Result<Vec<u8>, AskFault> {
+    fn told_of(&self, answer: &Answer) -> Result<Vec<u8>, AskFault>
+        ensures told { IfOk result (λ octets. TellsAccepted answer.now octets.items) }
+        ensures fault { IfErr result (IsUntold answer.now.outcome) }
+    {
         match answer.outcome {
             Outcome::Accepted => {
                 let lines = reply_lines(self.alloc, answer.reply.as_slice())?;
@@ -225,20 +235,19 @@ fn answers_of(
     alloc: Global,
     noted: &[Noted],
     replies: Vec<Vec<u8>>,
-) -> Result<Vec<Answer>, AllocError> {
+) -> Result<Vec<Answer>, AllocError>
+    ensures { IfOk result (λ answers.
+        map (λ answer. answer.outcome) answers.items ≡ map outcome_noted noted.now) }
+{
     let mut answers = Vec::with_capacity(alloc, noted.len())?;
     let mut replies = replies.into_iter();
     for one in noted {
-        let said = match one.end {
-            End::Answered(said) => Some(said),
-            _ => None,
-        };
-        let reply = match said {
+        let reply = match one.said() {
             Some(_) => replies.next(),
             None => None,
         };
         answers.push(Answer {
-            outcome: Outcome::of(said, one.detail),
+            outcome: Outcome::of(one.said(), one.detail),
             reply: reply.unwrap_or(Vec::new(alloc)),
         })?;
     }

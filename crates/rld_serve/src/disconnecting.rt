@@ -1,6 +1,9 @@
 //! Sessions that their access servers are to disconnect (RFC 5176). One worker sends the requests and takes
 //! the answers, of several at once, so that no other waits for an access server.
 
+ghost use Rattle.std.specs.Prelude.{◌≡◌};
+ghost use Rattle.rld_serve.specs.Disconnecting.{IsOutcomeOf, after_ack};
+
 use crate::accounts::Accounts;
 use crate::ask_fault::AskFault;
 use crate::server::Server;
@@ -18,6 +21,8 @@ use std::time::{self, Duration};
 
 /// How long the worker sleeps between two looks for an order, in milliseconds.
 const SLEEP_MILLIS: u64 = 100;
+
+const _: () = prove!(SLEEP_MILLIS == 100);
 
 impl<'a, G, A, R> Server<'a, G, A, R>
 where
@@ -80,20 +85,15 @@ where
         }
     }
 
-    /// Ends an order that its access server has answered: where the session has ended its place is freed, as by
-    /// its Stop, unless that has come already.
-    fn end_answered(&self, order: &Order, answer: Answer) {
-        let outcome = match answer {
-            Answer::Ack => match self.freed(&order.named) {
-                Ok(Freed::Unrecorded) | Err(AskFault::Free(FreeFault::NoMemory)) => {
-                    Disconnected::Unrecorded
-                }
-                // another account file may have come, with which nothing of it is held
-                Ok(Freed::Done(_) | Freed::NotHeld(_)) | Err(_) => Disconnected::Done,
-            },
+    /// What comes of a session to whose request its access server has answered so: where the session has ended its
+    /// place is freed, as by its Stop, unless that has come already.
+    fn outcome_of(&self, named: &NamedSession, answer: Answer) -> Disconnected
+        ensures { IsOutcomeOf named.now answer result }
+    {
+        match answer {
+            Answer::Ack => after_ack(&self.freed(named)),
             Answer::Nak(cause) => Disconnected::Refused(cause),
-        };
-        self.end(order, outcome);
+        }
     }
 
     /// Makes the request of each order that has come.
@@ -160,7 +160,8 @@ where
                 break;
             }
             if let Some((order, answer)) = under_way.take_answer(self.rt, &socket) {
-                self.end_answered(&order, answer);
+                let outcome = self.outcome_of(&order.named, answer);
+                self.end(&order, outcome);
             }
         }
     }
@@ -173,5 +174,17 @@ where
             };
             self.end_with(&order, DisconnectFault::NoSocket.answer().as_bytes());
         }
+    }
+}
+
+/// What comes of a session that its access server has disconnected, by what came of freeing its place.
+fn after_ack(freed: &Result<Freed, AskFault>) -> Disconnected
+    ensures { result ≡ after_ack freed.now }
+{
+    match freed {
+        Ok(Freed::Unrecorded) | Err(AskFault::Free(FreeFault::NoMemory)) =>
+            Disconnected::Unrecorded,
+        // another account file may have come, with which nothing of it is held
+        Ok(Freed::Done(_) | Freed::NotHeld(_)) | Err(_) => Disconnected::Done,
     }
 }

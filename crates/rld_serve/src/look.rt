@@ -1,5 +1,8 @@
 //! What the running server shows of itself.
 
+ghost use Rattle.std.specs.Prelude.{◌≡◌, IfOk};
+ghost use Rattle.rld_serve.specs.Look.{recording_of};
+
 use crate::holdings::{Holdings, Rest};
 use crate::server::Server;
 use rld_look::{
@@ -57,7 +60,9 @@ impl<'a, G, A, R: time::Clock + Wait> Server<'a, G, A, R> {
     }
 
     /// What a look has besides, of a server with this number of accounts.
-    fn rest(&self, accounts: u32) -> Result<Rest, NoMemory> {
+    fn rest(&self, accounts: u32) -> Result<Rest, NoMemory>
+        ensures { IfOk result (λ rest. rest.start ≡ self.now.plan.start) }
+    {
         let access_servers = self.access_servers(accounts)?;
         let moment = SystemClock::new(self.rt, self.plan.start).now();
         let archive = *self.archive.lock(self.rt);
@@ -130,11 +135,7 @@ impl<'a, G, A, R: time::Clock + Wait> Server<'a, G, A, R> {
 
     /// Whether batches are being recorded, as far as the worker that makes ticks has seen.
     pub(crate) fn recording(&self) -> Recording {
-        if self.is_failing.load(Ordering::SeqCst) {
-            Recording::Failing
-        } else {
-            Recording::Recorded
-        }
+        recording_of(self.is_failing.load(Ordering::SeqCst))
     }
 
     /// The last whole minutes.
@@ -170,5 +171,16 @@ impl<'a, G, A, R: time::Clock + Wait> Server<'a, G, A, R> {
         let octets = read_file(self.files, self.alloc, path, MAX_TABLE_LEN);
         let octets = octets.unwrap_or(Vec::new(self.alloc));
         String::from_utf8(octets).unwrap_or(String::new(self.alloc))
+    }
+}
+
+/// What is said of a server's recording, by whether a batch was not recorded lately.
+fn recording_of(is_failing: bool) -> Recording
+    ensures { result ≡ recording_of is_failing }
+{
+    if is_failing {
+        Recording::Failing
+    } else {
+        Recording::Recorded
     }
 }

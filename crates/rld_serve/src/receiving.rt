@@ -1,6 +1,7 @@
 //! The workers that receive datagrams.
 
-ghost use Rattle.std.specs.Prelude.{◌≡◌, false, OnOk};
+ghost use Rattle.std.specs.Prelude.{◌≡◌, false, IfErr, OnOk};
+ghost use Rattle.rld_serve.specs.Following.{IsFaultOf};
 
 use crate::accounts::Accounts;
 use crate::following::fault_after;
@@ -86,8 +87,10 @@ where
         port: Port,
         place: &mut Place<'_, 'a, R>,
     ) -> Result<Next, RunFault>
-        ensures { place.old.recorder.has_ended ≡ false →
+        ensures goes_on { place.old.recorder.has_ended ≡ false →
             OnOk result (place.new.recorder.has_ended ≡ false) }
+        ensures ends { place.old.recorder.has_ended ≡ false →
+            IfErr result (IsFaultOf place.new.recorder.has_ended) }
     {
         let current = self.current.read(self.rt);
         let present = current.present(&self.plan);

@@ -1,10 +1,11 @@
 //! Reading the accounts of a running server again.
 
-ghost use Rattle.std.specs.Prelude.{◌≡◌, ℕ, IfNone, IfOk, IfSome, length};
+ghost use Rattle.std.specs.Prelude.{◌≡◌, ℕ, All, IfNone, IfOk, IfSome, length, map};
 ghost use Rattle.std.specs.Arc.{arc_value};
-ghost use Rattle.rld_spelling.specs.Tables.{table_of};
+ghost use Rattle.rld_spelling.specs.Tables.{client_row, table_of};
 ghost use Rattle.rld_start.specs.NextHeaders.{generation_named};
 ghost use Rattle.rld_state.specs.Headers.{IsHeaderOf};
+ghost use Rattle.rld_serve.specs.Answering.{IsRefused, TellsChange};
 
 use crate::accounts::{Accounts, AccountsFault};
 use crate::ask_fault::AskFault;
@@ -56,9 +57,19 @@ where
             Err(AccountsFault::Wrong(text)) => return self.refusal(&text),
             Err(AccountsFault::NoMemory) => return Err(AskFault::NoMemory),
         };
-        match self.change_accounts(config) {
+        let changed = self.change_accounts(config);
+        if let Ok(reloaded) = changed {
+            self.tell(Told::Accounts(reloaded));
+        }
+        self.told_change(changed)
+    }
+
+    /// The answer once accounts were read: with what era they go on, or why they are as they were.
+    fn told_change(&self, changed: Result<Reloaded, ReloadFault>) -> Result<Vec<u8>, AskFault>
+        ensures { IfOk result (λ octets. TellsChange changed octets.items) }
+    {
+        match changed {
             Ok(reloaded) => {
-                self.tell(Told::Accounts(reloaded));
                 let lines = format!(in self.alloc; "{reloaded}\n")?;
                 self.told(Reply::Done(lines.as_bytes()))
             }
@@ -67,7 +78,9 @@ where
     }
 
     /// The answer to a command that is not done.
-    fn refusal<T: fmt::Display>(&self, why: &T) -> Result<Vec<u8>, AskFault> {
+    fn refusal<T: fmt::Display>(&self, why: &T) -> Result<Vec<u8>, AskFault>
+        ensures { IfOk result (λ octets. IsRefused octets.items) }
+    {
         let why = format!(in self.alloc; "{why}")?;
         self.told(Reply::Refused(why.as_bytes()))
     }
@@ -97,6 +110,12 @@ where
             IfSome change.next (λ _. table_of boot former.now ≡ table_of boot config → ⊥)) }
         ensures counts { IfOk result (λ change. IfSome change.counts
             (λ each. length each.items ≡ length self.now.board.places.items)) }
+        ensures clients { IfOk result (λ change. IfSome change.counts
+            (λ each. All (λ one. one ≡ length config.clients) each.items)) }
+        ensures recounts { IfOk result (λ change. IfSome change.counts
+            (λ _. map client_row former.now.clients ≡ map client_row config.clients → ⊥)) }
+        ensures counts_on { IfOk result (λ change. IfNone change.counts
+            (map client_row former.now.clients ≡ map client_row config.clients)) }
     {
         let config = Arc::new(self.alloc, config)?;
         let held = Arc::try_clone(&config)?;

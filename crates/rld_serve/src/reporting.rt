@@ -26,6 +26,8 @@ const _: () = prove!(SLEEP_MILLIS * SLEEPS == 1_000);
 /// How many reports may wait to be written, except refusals.
 pub(crate) const MOST_TOLD: usize = 64;
 
+const _: () = prove!(MOST_TOLD == 64);
+
 impl<G, A, R: Wait> Server<'_, G, A, R> {
     /// Queues a report to be written. It is left out if `MOST_TOLD` reports wait.
     pub(crate) fn tell(&self, told: Told) {

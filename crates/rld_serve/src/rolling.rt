@@ -1,5 +1,10 @@
 //! Generations that follow one another while the server runs.
 
+ghost use Rattle.std.specs.Prelude.{◌≡◌, IfErr, OnOk};
+ghost use Rattle.rld_edges.specs.declared.fault.RunFault.TheVariants.{Unsynced};
+ghost use Rattle.rld_serve.specs.Following.{HasBegun};
+ghost use Rattle.rld_state.specs.Due.{IsDue, just_begun, second_later};
+
 use crate::accounts::Accounts;
 use crate::server::Server;
 use rld_edges::RunFault;
@@ -21,7 +26,9 @@ pub(crate) struct Rolls {
 
 impl Rolls {
     /// The state of that worker when a generation has just begun.
-    pub(crate) fn new() -> Rolls {
+    pub(crate) fn new() -> Rolls
+        ensures { result.timer ≡ just_begun }
+    {
         Rolls {
             timer: RollTimer::new(),
             begins: Trouble::new(),
@@ -38,9 +45,22 @@ where
 {
     /// Lets a second pass: if the next generation is due, it begins, and old logs are put away.
     /// Failures are reported. `Unsynced` comes if nothing more can be recorded.
-    pub(crate) fn roll_if_due(&self, rolls: &mut Rolls, now: u64) -> Result<(), RunFault> {
-        rolls.timer.pass_second();
+    pub(crate) fn roll_if_due(&self, rolls: &mut Rolls, now: u64) -> Result<(), RunFault>
+        ensures { IfErr result (λ fault. fault ≡ Unsynced) }
+    {
         let moves = self.state.lock(self.rt).moves();
+        self.roll_after(rolls, moves, now)
+    }
+
+    /// The same, where the present generation has `moves` moves.
+    fn roll_after(&self, rolls: &mut Rolls, moves: u64, now: u64) -> Result<(), RunFault>
+        ensures due { IsDue (second_later rolls.old.timer) moves →
+            OnOk result (HasBegun (second_later rolls.old.timer) rolls.new.timer) }
+        ensures not_due { (IsDue (second_later rolls.old.timer) moves → ⊥) →
+            rolls.new.timer ≡ second_later rolls.old.timer }
+        ensures fault { IfErr result (λ fault. fault ≡ Unsynced) }
+    {
+        rolls.timer.pass_second();
         if !rolls.timer.is_due(moves) {
             return Ok(());
         }
@@ -71,7 +91,9 @@ where
     }
 
     /// Puts old logs away, and reports where that fails. What the archive then has is kept for whoever looks.
-    pub(crate) fn put_away(&self, rolls: &mut Rolls, now: u64) {
+    pub(crate) fn put_away(&self, rolls: &mut Rolls, now: u64)
+        ensures { rolls.new.timer ≡ rolls.old.timer }
+    {
         let newest = Written::by(self.state.lock(self.rt).recorder());
         let outcome = self.generations.put_away(self.alloc, newest, now);
         self.tell_if_any(notice_of_archive(&mut rolls.archive, outcome));

@@ -1,18 +1,23 @@
-ghost use Rattle.std.specs.Prelude.{◌≡◌, false, OnOk};
+ghost use Rattle.std.specs.Prelude.{◌≡◌, IfErr, IfOk, IfSome, OnOk, false, length, map, true};
+ghost use Rattle.std.specs.List.{filter_map};
 ghost use Rattle.rld_books.specs.Saved.{IsServerOf};
+ghost use Rattle.rld_edges.specs.Jobs.{port_of};
+ghost use Rattle.rld_edges.specs.declared.fault.RunFault.TheVariants.{Unsynced};
 ghost use Rattle.rld_start.specs.NextHeaders.{generation_named};
 ghost use Rattle.rld_state.specs.Headers.{IsHeaderOf};
+ghost use Rattle.rld_watch.specs.Ending.{gate_of};
 
 use crate::accounts::Accounts;
 use crate::asking::Seat;
 use crate::current::Current;
+use crate::following::{failed_by, is_to_work};
 use crate::reporting::MOST_TOLD;
 use crate::rolling::Rolls;
 use crate::shared_recorder::SharedRecorder;
 use circular_buffer::HeapCircularBuffer;
 use rld_ask::Asks;
 use rld_edges::{
-    Control, Job, Orders, Readiness, RunFault, Shutdown, Sockets, Start, outcome_of, ports_of,
+    Control, Job, Orders, Readiness, RunFault, Shutdown, Sockets, outcome_of, ports_of,
 };
 use rld_folder::LogKey;
 use rld_log::{FileLog, PacedLog, Pacing};
@@ -22,7 +27,7 @@ use rld_spelling::Header;
 use rld_start::Generations;
 use rld_state::{ServerState, Told, Trouble, news_of_clock, seconds_behind};
 use rld_store::Store;
-use rld_turn::{RecordFault, tick};
+use rld_turn::tick;
 use rld_watch::{Board, Gate};
 use rsl_accounts::Config;
 use rsl_event::Port;
@@ -207,7 +212,10 @@ impl Rooms {
         clients: u32,
         jobs: &[Job<'_>],
         asks: Option<&Asks>,
-    ) -> Result<Rooms, AllocError> {
+    ) -> Result<Rooms, AllocError>
+        ensures { IfOk result (λ rooms. IfSome rooms.seat (λ seat.
+            seat.number ≡ length (filter_map port_of jobs.now))) }
+    {
         let ports = ports_of(alloc, jobs)?;
         let mut gates = gates_of(alloc, ports.as_slice())?;
         let seat = asks.map(|asks| Seat {
@@ -229,7 +237,9 @@ impl Rooms {
 }
 
 /// Where the receivers of these ports take what they count.
-fn gates_of(alloc: Global, ports: &[Port]) -> Result<Vec<Gate>, AllocError> {
+fn gates_of(alloc: Global, ports: &[Port]) -> Result<Vec<Gate>, AllocError>
+    ensures { IfOk result (λ gates. gates.items ≡ map gate_of ports.now) }
+{
     let mut gates = Vec::new(alloc);
     for port in ports {
         gates.push(Gate::of(*port))?;
@@ -306,11 +316,7 @@ where
     /// Notes that a worker has started, and waits for the others. Gives whether there is work to
     /// do.
     pub(crate) fn has_started(&self) -> Result<bool, RunFault> {
-        match self.shutdown.await_start(self.rt) {
-            Start::All => Ok(true),
-            Start::Over => Ok(false),
-            Start::Missing => Err(RunFault::Threads),
-        }
+        is_to_work(self.shutdown.await_start(self.rt))
     }
 
     /// The recorder, for a worker.
@@ -384,14 +390,13 @@ where
         recorder: &mut SharedRecorder<'_, PacedLog<'a, FileLog>, R>,
         clock: &mut SystemClock<'_, R>,
     ) -> Result<bool, RunFault>
-        ensures { recorder.old.has_ended ≡ false → OnOk result (recorder.new.has_ended ≡ false) }
+        ensures goes_on { recorder.old.has_ended ≡ false →
+            OnOk result (recorder.new.has_ended ≡ false) }
+        ensures ends { recorder.old.has_ended ≡ false → IfErr result (λ fault.
+            (fault ≡ Unsynced) × (recorder.new.has_ended ≡ true)) }
     {
         self.plan.pacing.ticks.begin();
-        let has_failed = match tick(self.alloc, recorder, clock) {
-            Ok(()) => false,
-            Err(RecordFault::Failed) => true,
-            Err(RecordFault::Ended) => return Err(RunFault::Unsynced),
-        };
-        Ok(recorder.take_failed() || has_failed)
+        let ticked = tick(self.alloc, recorder, clock);
+        failed_by(ticked, recorder.take_failed())
     }
 }

@@ -1,0 +1,99 @@
+-- What an operator is told.
+use Rattle.std.specs.Prelude.{◌≡◌, ⊤, ℕ, ◌+◌, List, ◌++◌, codes, length, slice_get, Option, Some, None, Result, Ok, Err}
+use Rattle.rld_ask.specs.Reply.{lines_of}
+use Rattle.rld_attributes.specs.Listed.{attributes_of}
+use Rattle.rld_ask.specs.declared.asked.Answer.{Answer as AskAnswer}
+use Rattle.rld_ask.specs.declared.outcome.Outcome.{Outcome}
+use Rattle.rld_ask.specs.declared.outcome.Outcome.TheVariants as outcomes
+use Rattle.rld_control.specs.declared.command.Command.{Command}
+use Rattle.rld_control.specs.declared.command.Command.TheVariants as commands
+use Rattle.rld_control.specs.declared.named.NamedSession.{NamedSession}
+use Rattle.rsl_accounts.specs.Configuration.{Configuration, account_number}
+use Rattle.rsl_shard.specs.Restep.{BooksSeen}
+use Rattle.rld_state.specs.Listing.{AreHeldFrom}
+use Rattle.rld_state.specs.declared.listing.LinksPage.{LinksPage}
+use Rattle.rld_control.specs.declared.form.Form.{Form}
+use Rattle.rld_control.specs.declared.form.Selection.{Selection}
+use Rattle.rld_lists.specs.Accounts.{accounts_text}
+use Rattle.rld_lists.specs.Links.{links_text}
+use Rattle.rld_look.specs.declared.look.AccountLook.{AccountLook}
+use Rattle.rsl_accounts.specs.declared.entry.Entry.{Entry}
+use Rattle.rsl_session.specs.declared.saved.SavedLink.{SavedLink}
+use Rattle.rld_state.specs.Freeing.{TellsFreed, WasFreed, WereFreed}
+use Rattle.rld_state.specs.declared.reload_result.Reloaded.{Reloaded}
+use Rattle.rld_state.specs.declared.reload_result.ReloadFault.{ReloadFault}
+use Rattle.rld_serve.specs.declared.answering.Answer.{Answer}
+use Rattle.rld_serve.specs.declared.answering.Answer.TheVariants.{Now, Later}
+use Rattle.rld_serve.specs.declared.ask_fault.AskFault.{AskFault}
+use Rattle.rld_serve.specs.declared.ask_fault.AskFault.TheVariants.{NotAccepted, NoMemory}
+
+-- an answer that says that something is done, and one that says that it is not
+pub record IsDone (octets : List ℕ) : Type 0 where
+  pub lines : List ℕ
+  pub is : octets ≡ lines ++ codes "ok\n"
+
+pub record IsRefused (octets : List ℕ) : Type 0 where
+  pub text : List ℕ
+  pub is : octets ≡ codes "error " ++ (text ++ codes "\n")
+
+-- the answer comes at once, and has such octets; or it comes later, on this session
+abbrev pub IsNow : (List ℕ → Type 0) → Answer → Type 0
+IsNow Is (Now octets) = Is octets.items
+IsNow Is (Later named) = ⊥
+
+abbrev pub IsLater : NamedSession → Answer → Type 0
+IsLater named (Now octets) = ⊥
+IsLater named (Later other) = other ≡ named
+
+-- The answer to a command: it tells what was freed of what the command names, or comes once that session
+-- is disconnected. To any other command it comes at once.
+abbrev pub IsAnswerTo : Command → Answer → Type 0
+IsAnswerTo (commands.Free named) answer = IsNow (TellsFreed (WasFreed named)) answer
+IsAnswerTo (commands.FreeServer named) answer = IsNow (TellsFreed (WereFreed named)) answer
+IsAnswerTo (commands.Disconnect named) answer = IsLater named answer
+IsAnswerTo _ answer = IsNow (λ _. ⊤) answer
+
+-- what accounts hold, in a form
+pub record ShowsAccounts (form : Form) (selection : Selection) (octets : List ℕ) : Type 0 where
+  pub accounts : List AccountLook
+  pub is : octets ≡ accounts_text form selection accounts
+
+-- the links of the account with this name, in a form
+pub record ShowsSessions (form : Form) (name octets : List ℕ) : Type 0 where
+  pub config : Configuration
+  pub number : ℕ
+  pub entry : Entry
+  pub moment : ℕ
+  pub links : List SavedLink
+  pub numbered : account_number config name ≡ Some number
+  pub entered : slice_get config.accounts number ≡ Some entry
+  pub is : octets ≡ links_text form config entry.name entry.rules.live moment links
+
+-- where a page of the links of all accounts begins: at the account that is named, or else at the first one
+abbrev pub begins_at : Configuration → Option (List ℕ) → Option ℕ
+begins_at config None = Some 0
+begins_at config (Some name) = account_number config name
+
+-- such a page, of some books
+pub record IsPageFrom (config : Configuration) (from : Option (List ℕ)) (page : LinksPage) : Type 0 where
+  pub books : List BooksSeen
+  pub first : ℕ
+  pub begins : begins_at config from ≡ Some first
+  pub held : AreHeldFrom books first page.held.items
+  pub next : page.next ≡ first + length page.held.items
+
+-- what is told once the accounts were to be read again
+abbrev pub TellsChange : Result Reloaded ReloadFault → (octets : List ℕ) → Type 0
+TellsChange (Ok reloaded) octets = IsDone octets
+TellsChange (Err fault) octets = IsRefused octets
+
+-- an ask is told as accepted where it is, with the lines of its reply
+abbrev pub TellsAccepted : AskAnswer → (octets : List ℕ) → Type 0
+TellsAccepted answer octets =
+    (answer.outcome ≡ outcomes.Accepted)
+    × (octets ≡ lines_of (attributes_of answer.reply.items) ++ codes "ok\n")
+
+-- why an ask with this outcome has no such answer
+abbrev pub IsUntold : Outcome → AskFault → Type 0
+IsUntold outcomes.Accepted fault = fault ≡ NoMemory
+IsUntold outcome fault = fault ≡ NotAccepted outcome
