@@ -30,7 +30,8 @@ abbrev pub named_octets : NamedSession → (identifier moment : ℕ) → (secret
 named_octets named identifier moment secret = sealed_octets identifier (named_attributes named moment) secret
 
 -- the request for the session that is named, sealed with the secret of its client
-abbrev pub IsRequestFor : Configuration → NamedSession → (identifier moment : ℕ) → (octets : List ℕ) → Type 0
-IsRequestFor config named identifier moment octets =
-    (client : ℕ) → client_number config named.client ≡ Some client
-    → octets ≡ named_octets named identifier moment (secret_of config client)
+pub record IsRequestFor (config : Configuration) (named : NamedSession) (identifier moment : ℕ) (octets : List ℕ)
+    : Type 0 where
+  pub client : ℕ
+  pub known : client_number config named.client ≡ Some client
+  pub is : octets ≡ named_octets named identifier moment (secret_of config client)

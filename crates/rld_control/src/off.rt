@@ -40,6 +40,7 @@ impl Off {
             MeansOff config.now boot (record { address = named.now.client; port = 0 }) off) }
         ensures client { IsErrOf result FreeFault.UnknownClient ↔
             (client_number config.now named.now.client ≡ None) }
+        ensures account { IsErrOf result FreeFault.UnknownAccount → ⊥ }
     {
         let off = built(alloc, config, named)?;
         let source = Source {
@@ -71,6 +72,7 @@ fn built(alloc: Global, config: &Config, named: &NamedServer) -> Result<Off, Fre
     ensures off { IfOk result (λ off. IsOffOf config.now named.now off) }
     ensures client { IsErrOf result FreeFault.UnknownClient ↔
         (client_number config.now named.now.client ≡ None) }
+    ensures account { IsErrOf result FreeFault.UnknownAccount → ⊥ }
 {
     let Some(client) = config.client(named.client) else {
         return Err(FreeFault::UnknownClient);
@@ -87,6 +89,7 @@ fn built(alloc: Global, config: &Config, named: &NamedServer) -> Result<Off, Fre
 fn off_octets(alloc: Global, named: &NamedServer, secret: &[u8]) -> Result<Vec<u8>, FreeFault>
     ensures octets { IfOk result (λ octets. octets.items ≡ off_octets named.now secret.now) }
     ensures known { IsErrOf result FreeFault.UnknownClient → ⊥ }
+    ensures account { IsErrOf result FreeFault.UnknownAccount → ⊥ }
 {
     let status = ACCOUNTING_OFF.to_be_bytes();
     let session = [b'0'];

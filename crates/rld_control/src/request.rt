@@ -1,6 +1,7 @@
 //! The Disconnect-Request for a session that an operator names (RFC 5176 section 2.3).
 
-ghost use Rattle.std.specs.Prelude.{◌≡◌, IfOk};
+ghost use Rattle.std.specs.Prelude.{◌≡◌, ◌↔◌, None, IfOk, IsErrOf};
+ghost use Rattle.rsl_accounts.specs.Configuration.{client_number};
 ghost use Rattle.rld_disconnect.specs.Request.{server_attributes};
 ghost use Rattle.rld_control.specs.Requests.{IsRequestFor, named_octets, nas_attributes};
 
@@ -24,8 +25,10 @@ pub fn disconnect_request(
     identifier: u8,
     moment: u32,
 ) -> Result<Vec<u8>, FreeFault>
-    ensures { IfOk result (λ octets.
+    ensures request { IfOk result (λ octets.
         IsRequestFor config.now named.now identifier moment octets.items) }
+    ensures client { IsErrOf result FreeFault.UnknownClient ↔
+        (client_number config.now named.now.client ≡ None) }
 {
     let Some(client) = config.client(named.client) else {
         return Err(FreeFault::UnknownClient);
@@ -42,8 +45,9 @@ fn named_octets(
     moment: u32,
     secret: &[u8],
 ) -> Result<Vec<u8>, FreeFault>
-    ensures { IfOk result (λ octets.
+    ensures octets { IfOk result (λ octets.
         octets.items ≡ named_octets named.now identifier moment secret.now) }
+    ensures client { IsErrOf result FreeFault.UnknownClient → ⊥ }
 {
     let request = Request {
         identifier,

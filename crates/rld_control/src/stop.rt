@@ -1,6 +1,6 @@
 ghost use Rattle.std.specs.Prelude.{◌≡◌, ◌↔◌, map, None, IsTrue, IfOk, IsErrOf};
 ghost use Rattle.std.specs.List.{list_any};
-ghost use Rattle.rsl_accounts.specs.Configuration.{account_number};
+ghost use Rattle.rsl_accounts.specs.Configuration.{account_number, client_number};
 ghost use Rattle.rsl_event.specs.declared.event.Act.TheVariants as acts;
 ghost use Rattle.rsl_event.specs.declared.meaning.Meaning.TheVariants as meanings;
 ghost use Rattle.rsl_session.specs.Saved.{saved_links};
@@ -57,6 +57,8 @@ impl Stop {
             MeansStop config.now boot (record { address = named.now.client; port = 0 }) stop) }
         ensures account { IsErrOf result FreeFault.UnknownAccount ↔
             (account_number config.now named.now.account ≡ None) }
+        ensures client { IsErrOf result FreeFault.UnknownClient →
+            client_number config.now named.now.client ≡ None }
     {
         let stop = built(alloc, config, named)?;
         let source = Source {
@@ -127,6 +129,8 @@ fn built(alloc: Global, config: &Config, named: &NamedSession) -> Result<Stop, F
     ensures stop { IfOk result (λ stop. IsStopOf config.now named.now stop) }
     ensures account { IsErrOf result FreeFault.UnknownAccount ↔
         (account_number config.now named.now.account ≡ None) }
+    ensures client { IsErrOf result FreeFault.UnknownClient →
+        client_number config.now named.now.client ≡ None }
 {
     let Some(account) = config.account(named.account.as_slice()) else {
         return Err(FreeFault::UnknownAccount);
@@ -152,6 +156,7 @@ fn built(alloc: Global, config: &Config, named: &NamedSession) -> Result<Stop, F
 fn stop_octets(alloc: Global, named: &NamedSession, secret: &[u8]) -> Result<Vec<u8>, FreeFault>
     ensures octets { IfOk result (λ octets. octets.items ≡ stop_octets named.now secret.now) }
     ensures known { IsErrOf result FreeFault.UnknownAccount → ⊥ }
+    ensures client { IsErrOf result FreeFault.UnknownClient → ⊥ }
 {
     let status = STOP.to_be_bytes();
     let name = Attr {
