@@ -49,7 +49,7 @@ size_more payloads payload fits =
 
 -- ---- one batch more
 
-batches_more : (counts : Counts) (moves batch : List Move) (payloads : List (List ℕ)) (payload : List ℕ) → AreBatches counts moves payloads → (moves_field counts).Fits batch → payload ≡ (moves_field counts).spell batch
+pub batches_more : (counts : Counts) (moves batch : List Move) (payloads : List (List ℕ)) (payload : List ℕ) → AreBatches counts moves payloads → (moves_field counts).Fits batch → payload ≡ (moves_field counts).spell batch
     → AreBatches counts (moves ++ batch) (payloads ++ payload ∷ [])
 batches_more counts moves batch payloads payload so fit is = record {
   batches = so.batches ++ batch ∷ [];

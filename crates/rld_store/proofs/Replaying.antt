@@ -16,12 +16,12 @@ use Rattle.rld_spelling.specs.Moves.{moves_field}
 use Rattle.rld_spelling.specs.declared.header.Header.{Header}
 use Rattle.rld_spelling.specs.declared.moves.Counts.{Counts}
 use Rattle.rld_store.specs.Generations.{AreBatches, IsSnapshot, counts_of, moves_in}
-use Rattle.rld_store.specs.Opening.{AreParts, IsAt, IsBatchAt, IsFirstFault, IsFoundIn, IsMalformed, IsWhyNoBooks, IsWhyNoMoves, IsWhyNoParts, IsWhyUnread}
+use Rattle.rld_store.specs.Opening.{AreParts, AreReplayed, IsAt, IsBatchAt, IsFirstFault, IsFoundIn, IsMalformed, IsThere, IsWhyNoBooks, IsWhyNoMoves, IsWhyNoParts, IsWhyUnread}
 use Rattle.rld_store.specs.declared.fault.Malformed.{Malformed}
 use Rattle.rld_store.specs.declared.fault.StoreFault.{StoreFault}
 use Rattle.rld_store.specs.declared.fault.StoreFault.TheVariants as faults
 use Rattle.rld_store.specs.declared.parts.Parts.{Parts}
-use Rattle.rld_store.proofs.Batches.{replay_first, replay_more, replay_none, size_more}
+use Rattle.rld_store.proofs.Batches.{batches_more, replay_first, replay_more, replay_none, size_more}
 use Rattle.rld_store.proofs.Fronts.{front_size}
 
 -- ---- one batch
@@ -98,6 +98,33 @@ pub at_drop : (payloads : List (List ℕ)) (at : ℕ) (payload : List ℕ) → s
 at_drop payloads at payload is =
     drop_more payloads at payload (slice_get_within payloads at payload is) ∙ ap (λ (p : List ℕ). p ∷ drop (at + 1) payloads) (get_or_from_slice_get payloads at payload payload is)
 
+-- ---- the batches that were spelled so far
+
+take_next : (payloads : List (List ℕ)) (at : ℕ) (payload : List ℕ) → slice_get payloads at ≡ Some payload → take (at + 1) payloads ≡ take at payloads ++ payload ∷ []
+take_next payloads at payload is =
+    take_more payloads at payload (slice_get_within payloads at payload is)
+    ∙ ap (λ (p : List ℕ). take at payloads ++ p ∷ []) (get_or_from_slice_get payloads at payload payload is)
+
+pub none_spelled : (counts : Counts) (begun : List BooksSeen) → AreReplayed counts [] begun begun 0
+none_spelled counts begun = record {
+  moves = [];
+  batches = record { batches = []; are = refl; fit = tt; spelled = refl };
+  books_are = sym (replay_none begun);
+  count_is = refl;
+}
+
+pub spelled_more : (counts : Counts) (begun : List BooksSeen) (payloads : List (List ℕ)) (at : ℕ) (books next : List BooksSeen) (count more : ℕ) (payload : List ℕ) (read : List Move)
+    → slice_get payloads at ≡ Some payload → AreReplayed counts (take at payloads) begun books count
+    → payload ≡ (moves_field counts).spell read → (moves_field counts).Fits read → next ≡ replay books read → more ≡ count + length read
+    → AreReplayed counts (take (at + 1) payloads) begun next more
+spelled_more counts begun payloads at books next count more payload read there so spelled fit made counted = record {
+  moves = so.moves ++ read;
+  batches = subst (λ (l : List (List ℕ)). AreBatches counts (so.moves ++ read) l) (sym (take_next payloads at payload there))
+      (batches_more counts so.moves read (take at payloads) payload so.batches fit spelled);
+  books_are = made ∙ ap (λ (b : List BooksSeen). replay b read) so.books_are ∙ sym (replay_more begun so.moves read);
+  count_is = omega (arith, counted, so.count_is, length-append so.moves read);
+}
+
 -- ---- where a payload stands
 
 end_of : (before payloads : List (List ℕ)) (at : ℕ) (payload : List ℕ) (whole end : ℕ) → Fits payload → whole ≡ length (frames (before ++ take at payloads)) → end ≡ whole + (20 + length payload)
@@ -143,6 +170,25 @@ found_in config payloads batches first second found begun_books books count part
       books_are = replayed moves have ∙ ap (λ (b : List BooksSeen). replay b moves) (snapshot begun is (subst (λ (o : List ℕ). IsSnapshot (counts_of config) begun o) (sym two) of.snapshot_is));
       count_is = counted moves have;
     }
+
+pub is_there : (config : Configuration) (payloads batches : List (List ℕ)) (first second : List ℕ) (header : Header) (begun books : List BooksSeen) (count : ℕ)
+    → payloads ≡ first ∷ second ∷ batches → first ≡ header_octets header → header_field.Fits header → IsServerOf config begun → IsSnapshot (counts_of config) begun second
+    → AreReplayed (counts_of config) batches begun books count → IsThere config payloads header books count
+is_there config payloads batches first second header begun books count parts head fits is snapshot so = record {
+  begun = begun;
+  begun_is = is;
+  moves = so.moves;
+  generation = record {
+    header_fits = fits;
+    snapshot = second;
+    snapshot_is = snapshot;
+    batches = batches;
+    batches_are = so.batches;
+    payloads_are = parts ∙ ap (λ (o : List ℕ). o ∷ second ∷ batches) head;
+  };
+  books_are = so.books_are;
+  count_is = so.count_is;
+}
 
 pub parts_are : (payloads : List (List ℕ)) (header snapshot : List ℕ) (parts : Parts) → payloads ≡ header ∷ snapshot ∷ map (λ (payload : Bor (List ℕ)). payload.now) parts.batches.now
     → parts.header.payload.now ≡ header → parts.snapshot.payload.now ≡ snapshot → Fits parts.header.payload.now → Fits parts.snapshot.payload.now

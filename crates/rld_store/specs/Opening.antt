@@ -17,7 +17,7 @@ use Rattle.rld_spelling.specs.Headers.{header_at}
 use Rattle.rld_spelling.specs.Moves.{moves_field}
 use Rattle.rld_spelling.specs.declared.header.Header.{Header}
 use Rattle.rld_spelling.specs.declared.moves.Counts.{Counts}
-use Rattle.rld_store.specs.Generations.{IsGeneration, IsUnbegun, counts_of}
+use Rattle.rld_store.specs.Generations.{AreBatches, IsGeneration, IsUnbegun, counts_of}
 use Rattle.rld_store.specs.declared.fault.Malformed.{Malformed}
 use Rattle.rld_store.specs.declared.fault.StoreFault.{StoreFault}
 use Rattle.rld_store.specs.declared.fault.StoreFault.TheVariants as faults
@@ -37,6 +37,32 @@ IsFoundIn config payloads found_header books count =
     (header : Header) (begun : List BooksSeen) (moves : List Move)
     → IsServerOf config begun → IsGeneration (counts_of config) header begun moves payloads
     → IsFound begun moves header found_header books count
+
+-- there is a generation: the payloads are one, with this header, and these are the books after its
+-- moves, and their number
+pub record IsThere (config : Configuration) (payloads : List (List ℕ)) (header : Header)
+    (books : List BooksSeen) (count : ℕ) : Type 0 where
+  pub begun : List BooksSeen
+  pub begun_is : IsServerOf config begun
+  pub moves : List Move
+  pub generation : IsGeneration (counts_of config) header begun moves payloads
+  pub books_are : books ≡ replay begun moves
+  pub count_is : count ≡ length moves
+
+-- the whole frames of a file have such a generation
+pub record IsThereIn (config : Configuration) (file : List ℕ) (header : Header)
+    (books : List BooksSeen) (count : ℕ) : Type 0 where
+  pub payloads : List (List ℕ)
+  pub has : HasPayloads file payloads
+  pub there : IsThere config payloads header books count
+
+-- payloads spell batches, whose moves make these books of those that were there, and are this many
+pub record AreReplayed (counts : Counts) (payloads : List (List ℕ)) (begun books : List BooksSeen)
+    (count : ℕ) : Type 0 where
+  pub moves : List Move
+  pub batches : AreBatches counts moves payloads
+  pub books_are : books ≡ replay begun moves
+  pub count_is : count ≡ length moves
 
 -- the parts of a generation of these payloads, and where the first two end
 pub record AreParts (payloads : List (List ℕ)) (parts : Parts) : Type 0 where

@@ -8,7 +8,7 @@ ghost use Rattle.rld_log.specs.Recording.{IsSettled};
 ghost use Rattle.rld_store.specs.Premises.{Only};
 ghost use Rattle.rld_log.specs.declared.log.Ending.{Ending as OneEnding};
 ghost use Rattle.rld_store.specs.Generations.{counts_of};
-ghost use Rattle.rld_store.specs.Opening.{IsFoundIn, IsOfNoLog, IsWhy, IsWhyNoFrames, LeavesAsItWas};
+ghost use Rattle.rld_store.specs.Opening.{IsFoundIn, IsOfNoLog, IsThereIn, IsWhy, IsWhyNoFrames, LeavesAsItWas};
 
 use crate::fault::StoreFault;
 use crate::reading::{Reading, read_generation};
@@ -45,6 +45,8 @@ fn generation_in(alloc: Global, config: &Config, frames: &Frames) -> Result<Rest
     ensures server { IfOk result (λ restored. IsServerOf config.now restored.reading.books) }
     ensures found { IfOk result (λ restored. (before : List (List ℕ)) → HasPayloads frames.now.octets.items before →
         IsFoundIn config.now before restored.reading.header restored.reading.books restored.reading.moves) }
+    ensures there { IfOk result (λ restored. IsThereIn config.now frames.now.octets.items
+        restored.reading.header restored.reading.books restored.reading.moves) }
     ensures ends { IfOk result (λ restored. ∥ EndsAt frames.now.octets.items restored.whole ∥₁) }
     ensures torn { IfOk result (λ restored. length frames.now.octets.items ≡ restored.whole + restored.torn) }
     ensures why { IfErr result (IsWhy (counts_of config.now) frames.now.octets.items) }
@@ -70,7 +72,9 @@ pub(crate) fn restore<L: Log>(
     ensures told { IsTrue (L.tells log.new) → IsTrue (L.tells log.old) }
     ensures server { IfOk result (λ restored. IsServerOf config.now restored.reading.books) }
 
-    // What is found is what the frames have, and these are the log's.
+    // What is found is what the frames have: they have a generation, and are the log's.
+    ensures there { IfOk result (λ restored. IsThereIn config.now given.now.octets.items
+        restored.reading.header restored.reading.books restored.reading.moves) }
     ensures given { IfOk result (λ restored. (before : List (List ℕ)) → HasPayloads given.now.octets.items before →
         IsFoundIn config.now before restored.reading.header restored.reading.books restored.reading.moves) }
     ensures found { IsTrue (L.tells log.new) → (before : List (List ℕ)) → HasPayloads (L.seen log.old) before →

@@ -82,6 +82,7 @@ impl<'a> Part<'a> {
         ensures server { IfOk result (λ books. IsServerOf config.now books) }
         ensures only { IfOk result (λ books. (begun : List BooksSeen) → IsServerOf config.now begun →
             IsSnapshot (counts_of config.now) begun self.entry.payload.now → books ≡ begun) }
+        ensures spelled { IfOk result (λ books. IsSnapshot (counts_of config.now) books self.entry.payload.now) }
         ensures why { IfErr result
             (IsWhyNoBooks (counts_of config.now).clients self.entry.end self.entry.payload.now) }
     {

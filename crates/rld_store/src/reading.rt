@@ -5,7 +5,7 @@ ghost use Rattle.rld_books.specs.Saved.{IsServerOf};
 ghost use Rattle.rld_books.specs.Server.{replay};
 ghost use Rattle.rld_log.specs.Frames.{frames};
 ghost use Rattle.rld_store.specs.Generations.{AreBatches, counts_of};
-ghost use Rattle.rld_store.specs.Opening.{IsFoundIn, IsWhyUnread};
+ghost use Rattle.rld_store.specs.Opening.{AreReplayed, IsFoundIn, IsThere, IsWhyUnread};
 ghost use Rattle.rld_store.specs.declared.fault.StoreFault.TheVariants.{Foreign as foreign};
 ghost use Rattle.rsl_accounts.specs.Configuration.{Configuration};
 ghost use Rattle.rsl_shard.specs.declared.moved.Move.{Move as OneMove};
@@ -59,6 +59,8 @@ fn replay_each(
         AreBatches counts moves (map (λ payload. payload.now) payloads.now) → books.new ≡ replay books.old moves) }
     ensures count { IfOk result (λ count. (moves : List OneMove) →
         AreBatches counts moves (map (λ payload. payload.now) payloads.now) → count ≡ length moves) }
+    ensures spelled { IfOk result
+        (AreReplayed counts (map (λ payload. payload.now) payloads.now) books.old books.new) }
     ensures why { IfErr result (λ fault. (header snapshot : List ℕ) →
         whole ≡ length (frames (header ∷ snapshot ∷ [])) →
         IsWhyUnread counts (header ∷ snapshot ∷ map (λ payload. payload.now) payloads.now) fault) }
@@ -92,6 +94,8 @@ pub(crate) fn read_generation(
 ) -> Result<Reading, StoreFault>
     ensures server { IfOk result (λ reading. IsServerOf config.now reading.books) }
     ensures found { IfOk result (λ reading. IsFoundIn config.now (map (λ payload. payload.now) payloads.now)
+        reading.header reading.books reading.moves) }
+    ensures there { IfOk result (λ reading. IsThere config.now (map (λ payload. payload.now) payloads.now)
         reading.header reading.books reading.moves) }
     ensures why { IfErr result
         (IsWhyUnread (counts_of config.now) (map (λ payload. payload.now) payloads.now)) }

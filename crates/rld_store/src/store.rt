@@ -10,7 +10,7 @@ ghost use Rattle.rld_log.specs.declared.log.Ending.{Ending as OneEnding};
 ghost use Rattle.rld_spelling.specs.Moves.{MoveFits, moves_field};
 ghost use Rattle.rld_store.specs.Beginning.{IsBegun};
 ghost use Rattle.rld_store.specs.Generations.{HasHistory, IsUnbegun, StandForHistory, counts_of};
-ghost use Rattle.rld_store.specs.Opening.{IsFoundIn, IsWhy, LeavesAsItWas};
+ghost use Rattle.rld_store.specs.Opening.{IsFoundIn, IsThereIn, IsWhy, LeavesAsItWas};
 ghost use Rattle.rld_store.specs.Recorded.{AreDecided, is_last};
 ghost use Rattle.rld_store.specs.Standing.{EndsSo, StandsFor};
 ghost use Rattle.rld_store.specs.Stored.{is_unsynced, record_fault};
@@ -188,6 +188,8 @@ impl<L: Log> Store<L> {
         // What was found is what the frames have, whatever the log tells.
         ensures given { IfOk result (λ opened. (before : List (List ℕ)) → HasPayloads frames.now.octets.items before →
             IsFoundIn config.now before opened.header opened.store.books opened.moves) }
+        ensures there { IfOk result (λ opened. IsThereIn config.now frames.now.octets.items
+            opened.header opened.store.books opened.moves) }
 
         // The store stands for the history of the log.
         ensures stands { IfOk result (λ opened. IsTrue (L.tells opened.store.log) →

@@ -1,8 +1,8 @@
 use Rattle.std.proofs.Common.{ℕ, List, Bor, map, sym, subst}
 use Rattle.rld_spelling.specs.declared.moves.Counts.{Counts}
 use Rattle.rld_store.specs.Generations.{counts_of}
-use Rattle.rld_store.specs.Opening.{IsWhyUnread}
-use Rattle.rld_store.proofs.Replaying.{books_why, header_why, parts_why}
+use Rattle.rld_store.specs.Opening.{AreReplayed, IsWhyUnread}
+use Rattle.rld_store.proofs.Replaying.{books_why, header_why, is_there, parts_why}
 use Rattle.rld_store.proofs.reading.read_generation.Goals as goal
 
 pub returns-in-Err-clause-why : goal.returns-in-Err-clause-why
@@ -22,3 +22,11 @@ returns-in-Err-replay_each-clause-why c =
     subst (λ (counts : Counts). IsWhyUnread counts (map (λ (payload : Bor (List ℕ)). payload.now) c.args.payloads.now) c.in-Err-replay_each.fault) c.counts_in-counts.ensures
     (subst (λ (payloads : List (List ℕ)). IsWhyUnread c.counts_in-counts.result payloads c.in-Err-replay_each.fault) (sym c.in-Ok.ensures.are.are)
     (c.in-Err-replay_each.ensures.why c.in-Ok.parts.header.payload.now c.in-Ok.parts.snapshot.payload.now c.in-Ok.ensures.are.snapshot_end))
+
+pub returns-in-Ok-replay_each-clause-there : goal.returns-in-Ok-replay_each-clause-there
+returns-in-Ok-replay_each-clause-there c =
+    let batches : List (List ℕ) = map (λ (payload : Bor (List ℕ)). payload.now) c.in-Ok.parts.batches.now in
+    is_there c.args.config.now (map (λ (payload : Bor (List ℕ)). payload.now) c.args.payloads.now) batches c.in-Ok.parts.header.payload.now c.in-Ok.parts.snapshot.payload.now
+    c.in-Ok-header.header c.in-Ok-books.books c.replay_each.new.books c.in-Ok-replay_each.moves
+    c.in-Ok.ensures.are.are c.in-Ok-header.ensures.spelled.0 c.in-Ok-header.ensures.spelled.1 c.in-Ok-books.ensures.server c.in-Ok-books.ensures.spelled
+    (subst (λ (counts : Counts). AreReplayed counts batches c.in-Ok-books.books c.replay_each.new.books c.in-Ok-replay_each.moves) c.counts_in-counts.ensures c.in-Ok-replay_each.ensures.spelled)
