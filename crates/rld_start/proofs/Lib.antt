@@ -1,4 +1,6 @@
+pub mod After
 pub mod Alike
+pub mod Ends
 pub mod Fronts
 pub mod Going
 pub mod Greatest

@@ -47,3 +47,7 @@ IsWhyNoFirst payloads _ = ⊥
 -- and whose length is another
 abbrev pub IsSpoilt : (octets : List ℕ) → (at : ℕ) → Type 0
 IsSpoilt octets at = ∥ EndsAt octets at ∥₁ × HasSpoiltLength (drop at octets)
+
+-- what follows the whole frames is a torn end: no frame with a spoilt length is there
+abbrev pub IsUnspoilt : (octets : List ℕ) → Type 0
+IsUnspoilt octets = (at : ℕ) → IsSpoilt octets at → ⊥

@@ -5,7 +5,7 @@ use Rattle.rld_folder.specs.Newest.{IsBelow, Precedes}
 use Rattle.rld_folder.specs.declared.name.FileName.{FileName}
 use Rattle.rld_folder.specs.declared.name.FileName.TheVariants.{Lock, Era, Log}
 use Rattle.rld_folder.specs.declared.name.Generation.{Generation}
-use Rattle.rld_start.specs.Firsts.{IsFirst}
+use Rattle.rld_start.specs.Firsts.{IsFirst, IsUnspoilt}
 use Rattle.rld_start.specs.Numbers.{IsFirstOrNone}
 use Rattle.rld_start.specs.declared.count.Admitted.{Admitted}
 use Rattle.rld_start.specs.declared.count.Found.{Found}
@@ -16,9 +16,11 @@ use Rattle.rld_start.specs.declared.newest.Look.TheVariants.{Begun as begun, Unb
 use Rattle.rld_start.specs.declared.newest.Newest.{Newest}
 use Rattle.rld_start.specs.declared.look.Unbegun.{Unbegun as NotBegun}
 
--- the frames of a generation that was begun have its header and a snapshot at their front
+-- the frames of a generation that was begun have its header and a snapshot at their front, and none with
+-- a spoilt length behind them
 abbrev pub HasFirst : WasBegun → Type 0
-HasFirst found = IsFirst found.frames.octets.items (begun_first found.header)
+HasFirst found =
+    IsFirst found.frames.octets.items (begun_first found.header) × IsUnspoilt found.frames.octets.items
 
 -- the log that was looked at is that of a generation
 abbrev pub IsLookAt : Generation → Look → Type 0
@@ -67,4 +69,4 @@ abbrev pub IsFrom : Option Generation → Found → Type 0
 IsFrom None found = (found.generation ≡ 0) × (found.admitted ≡ None)
 IsFrom (Some generation) found =
     ((found.era ≡ generation.era) × (found.generation ≡ generation.number) × (found.admitted ≡ None))
-    ⊎ (option_map (λ (admitted : Admitted). admitted.from) found.admitted ≡ Some generation)
+    ⊎ ((found.generation ≡ 0) × (option_map (λ (admitted : Admitted). admitted.from) found.admitted ≡ Some generation))

@@ -1,12 +1,14 @@
 //! An era after one with another account file, with the books admitted from it.
 
-ghost use Rattle.std.specs.Prelude.{◌≡◌, ◌+◌, ◌↔◌, ℕ, map, IfErr, IfOk, IfSome, IsTrue, Some};
+ghost use Rattle.std.specs.Prelude.{◌≡◌, ◌+◌, ◌↔◌, ℕ, Contains, map, IfErr, IfOk, IfSome, IsTrue, Some};
 ghost use Rattle.std.specs.Option.{option_map};
 ghost use Rattle.md5.specs.Md5.{md5};
 ghost use Rattle.rld_admit.specs.Admitted.{AreAdmitted};
 ghost use Rattle.rld_books.specs.Saved.{IsServerOf};
+ghost use Rattle.rld_folder.specs.Newest.{Precedes};
 ghost use Rattle.rld_spelling.specs.Eras.{era_octets};
 ghost use Rattle.rld_spelling.specs.Tables.{account_row, client_row, table_of};
+ghost use Rattle.rld_start.specs.Behind.{IsBehind};
 ghost use Rattle.rld_start.specs.Counted.{AreSessionsOf};
 ghost use Rattle.rld_start.specs.Faults.{IsWhyNotAdmitted};
 ghost use Rattle.rld_start.specs.Going.{Admits};
@@ -49,7 +51,10 @@ pub(crate) fn change<'a, R: Files<File = File>>(
     now: u64,
     pacing: Pacing<'a>,
 ) -> Result<Started<'a>, StartFault>
-    requires { table.now.octets.items ≡ era_octets (table_of table.now.boot config.now) → ⊥ }
+    requires other { table.now.octets.items ≡ era_octets (table_of table.now.boot config.now) → ⊥ }
+    requires there { Contains names.now (FileName.Log begun.generation) }
+    ensures after { IfOk result (λ started.
+        Precedes begun.generation (generation_named started.header)) }
     ensures written { IfOk result (λ started. started.store.header ≡ started.header) }
     ensures key { IfOk result (λ started. started.key.generation ≡ generation_named started.header) }
     ensures server { IfOk result (λ started. IsServerOf config.now started.store.books) }
@@ -58,6 +63,9 @@ pub(crate) fn change<'a, R: Files<File = File>>(
     ensures first { IfOk result (λ started.
         (started.header.generation ≡ 1) × (started.header.lines ≡ 0)) }
     ensures found { IfOk result (λ started. started.found.era ≡ started.header.era) }
+    ensures opened { IfOk result (λ started. started.found.generation ≡ 0) }
+    ensures behind { IfOk result (λ started.
+        IsBehind config.now started.store.books now started.found.behind) }
     ensures from { IfOk result (λ started.
         option_map (λ (admitted : WasAdmitted). admitted.from) started.found.admitted ≡ Some begun.generation) }
     ensures admits { IfOk result (λ started.
@@ -95,9 +103,13 @@ fn change_from<'a, R: Files<File = File>>(
     ensures era { IfOk result (λ started. started.header.era ≡ greatest_by era_of names.now + 1) }
     ensures first { IfOk result (λ started.
         (started.header.generation ≡ 1) × (started.header.lines ≡ 0)) }
+    ensures torn { IfOk result (λ started. started.found.torn ≡ former.entry.opened.torn) }
     ensures held { IfOk result (λ started. IfSome started.found.admitted (λ admitted.
         AreSessionsOf former.entry.opened.store.books admitted.sessions)) }
     ensures found { IfOk result (λ started. started.found.era ≡ started.header.era) }
+    ensures opened { IfOk result (λ started. started.found.generation ≡ 0) }
+    ensures behind { IfOk result (λ started.
+        IsBehind config.now started.store.books now started.found.behind) }
     ensures from { IfOk result (λ started. option_map (λ (admitted : WasAdmitted). admitted.from)
         started.found.admitted ≡ Some former.entry.generation) }
     ensures table { IfOk result (λ started. started.header.digest ≡ md5 (era_octets (table_of started.boot config.now))) }
@@ -121,7 +133,12 @@ fn change_from<'a, R: Files<File = File>>(
     let begun = begin_era(files, alloc, config, &folder, names, octets, books, pacing)?;
     let synced = sync_begun(files, alloc, &folder, &begun.header)?;
     let found = found_changed(alloc, config, &begun, &synced, admitted, torn, now)?;
-    let NewEra { store, header, key } = begun;
+    let NewEra {
+        store,
+        header,
+        key,
+        ..
+    } = begun;
     Ok(Started {
         folder,
         store,
@@ -145,6 +162,9 @@ fn found_changed(
 ) -> Result<Found, StartFault>
     requires { synced.now.generation ≡ generation_named begun.now.header }
     ensures era { IfOk result (λ found. found.era ≡ begun.now.header.era) }
+    ensures opened { IfOk result (λ found. found.generation ≡ 0) }
+    ensures torn { IfOk result (λ found. found.torn ≡ torn) }
+    ensures behind { IfOk result (λ found. IsBehind config.now begun.now.store.books now found.behind) }
     ensures admitted { IfOk result (λ found. found.admitted ≡ Some admitted) }
     ensures sessions { IfOk result (λ found. AreSessionsOf begun.now.store.books found.sessions) }
 {
@@ -190,7 +210,7 @@ pub fn admitted_books(
 }
 
 /// Syncs the log of a begun generation to the disk.
-fn sync_begun<R: Files<File = File>>(
+pub(crate) fn sync_begun<R: Files<File = File>>(
     files: &R,
     alloc: Global,
     folder: &Folder,

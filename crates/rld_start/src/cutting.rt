@@ -7,14 +7,15 @@ ghost use Rattle.rld_books.specs.Saved.{IsServerOf};
 ghost use Rattle.rld_start.specs.NextHeaders.{generation_named};
 ghost use Rattle.rld_start.specs.Numbers.{era_of, greatest_by};
 
+use crate::changing::sync_begun;
 use crate::fault::StartFault;
 use crate::new_era::{NewEra, begin_era};
 use crate::reopening::{EraTable, Former};
 use crate::words::{write_number, write_text};
 use crate::wrong::{Cause, Wrong};
 use rld_books::{CutBooks, ServerBooks, ServerFault};
-use rld_folder::{FileName, Folder, Generation};
-use rld_log::Pacing;
+use rld_folder::{FileName, Folder, Generation, Synced};
+use rld_log::{Pace, Pacing};
 use rsl_accounts::Config;
 use std::alloc::{AllocError, Global};
 use std::fs::{File, Files};
@@ -77,11 +78,14 @@ pub(crate) struct CutEra<'a> {
     begun: NewEra<'a>,
     /// The number of moments that were cut, at most 2^64 - 1.
     moments: u64,
+    /// That its log is on the disk.
+    synced: Synced,
 }
 
 impl CutEra<'_> {
-    /// What is said of it.
+    /// What is said of it, once its log is on the disk.
     pub(crate) fn rebased(&self) -> Rebased
+        requires { self.now.synced.generation ≡ generation_named self.now.begun.header }
         ensures from { result.from ≡ self.now.from }
         ensures era { result.era ≡ self.now.begun.header.era }
         ensures moments { result.moments ≡ self.now.moments }
@@ -107,6 +111,8 @@ pub(crate) fn cut_from<'a, R: Files<File = File>>(
     now: u64,
     pacing: Pacing<'a>,
 ) -> Result<CutEra<'a>, StartFault>
+    requires { pacing.pace ≡ Pace.Always }
+    ensures synced { IfOk result (λ cut. cut.synced.generation ≡ generation_named cut.begun.header) }
     ensures from { IfOk result (λ cut. cut.from ≡ former.now.generation) }
     ensures server { IfOk result (λ cut. IsServerOf config.now cut.begun.store.books) }
     ensures books { IfOk result (λ cut. IsServerOf config.now former.now.opened.store.books →
@@ -122,10 +128,12 @@ pub(crate) fn cut_from<'a, R: Files<File = File>>(
     let CutBooks { books, moments } = cut_books(alloc, config, former.generation, books, now)?;
     let table = table.octets.as_slice();
     let begun = begin_era(files, alloc, config, folder, names, table, books, pacing)?;
+    let synced = sync_begun(files, alloc, folder, &begun.header)?;
     Ok(CutEra {
         from: former.generation,
         begun,
         moments,
+        synced,
     })
 }
 

@@ -1,8 +1,10 @@
 //! The files of a folder, with faults that name the file.
 
 ghost use Rattle.std.specs.Prelude.{◌≡◌, IfOk};
+ghost use Rattle.md5.specs.Md5.{md5};
 
 use crate::fault::{StartFault, file_fault};
+use md5::{Digest, Md5};
 use rld_folder::{FileName, Folder, Generation, NewLog};
 use rld_log::FileLog;
 use std::alloc::Global;
@@ -49,6 +51,13 @@ pub(crate) fn read_era<R: Files<File = File>>(
     }
 }
 
+/// Proof that the table of an era was written, and synced with its name. Only `write_era` makes one.
+#[derive(Drop)]
+pub(crate) struct Tabled {
+    era: u64,
+    digest: [u8; 16],
+}
+
 /// Writes the table of a new era.
 pub(crate) fn write_era<R: Files<File = File>>(
     files: &R,
@@ -56,9 +65,15 @@ pub(crate) fn write_era<R: Files<File = File>>(
     folder: &Folder,
     era: u64,
     table: &[u8],
-) -> Result<(), StartFault> {
+) -> Result<Tabled, StartFault>
+    ensures era { IfOk result (λ tabled. tabled.era ≡ era) }
+    ensures digest { IfOk result (λ tabled. tabled.digest ≡ md5 table.now) }
+{
     match folder.write_era(files, alloc, era, table) {
-        Ok(()) => Ok(()),
+        Ok(()) => Ok(Tabled {
+            era,
+            digest: Md5::digest(table),
+        }),
         Err(fault) => Err(file_fault(FileName::Era(era), fault)),
     }
 }

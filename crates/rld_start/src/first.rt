@@ -1,8 +1,8 @@
 //! The front of a log: whether its generation was begun, and its header.
 
-ghost use Rattle.std.specs.Prelude.{◌↔◌, ℕ, List, drop, map, IfErr, IfOk, IsErr};
+ghost use Rattle.std.specs.Prelude.{◌↔◌, ℕ, List, drop, map, IfErr, IfOk, IsErr, OnOk};
 ghost use Rattle.rld_log.specs.Frames.{HasPayloads};
-ghost use Rattle.rld_start.specs.Firsts.{IsFirst, IsSpoilt, IsWhyNoFirst};
+ghost use Rattle.rld_start.specs.Firsts.{IsFirst, IsSpoilt, IsUnspoilt, IsWhyNoFirst};
 ghost use Rattle.rld_start.specs.Lengths.{HasSpoiltLength};
 
 use crate::length::has_spoilt_length;
@@ -24,6 +24,7 @@ pub enum First {
 pub fn check_torn(frames: &Frames) -> Result<(), Damage>
     ensures found { IsErr result ↔ HasSpoiltLength (drop frames.now.whole frames.now.octets.items) }
     ensures spoilt { IfErr result (λ damage. IsSpoilt frames.now.octets.items damage.offset) }
+    ensures unspoilt { OnOk result (IsUnspoilt frames.now.octets.items) }
 {
     if has_spoilt_length(frames.torn()) {
         return Err(Damage {

@@ -1,16 +1,23 @@
 //! The logs of a running server's folder.
 
-ghost use Rattle.std.specs.Prelude.{◌≡◌};
+ghost use Rattle.std.specs.Prelude.{◌≡◌, ◌+◌, ◌<◌, All, IfOk};
+ghost use Rattle.md5.specs.Md5.{md5};
+ghost use Rattle.rld_folder.specs.Newest.{Precedes};
+ghost use Rattle.rld_folder.specs.Older.{logless_eras};
+ghost use Rattle.rld_spelling.specs.declared.header.Format.TheVariants.{Two as two};
+ghost use Rattle.rld_start.specs.NextHeaders.{generation_named};
+ghost use Rattle.rld_start.specs.Numbers.{era_of, generation_of, greatest_by};
 
 use crate::fault::StartFault;
-use crate::new_era::{NextEra, make_era};
+use crate::listed::Listed;
+use crate::new_era::{MadeEra, NextEra, make_era};
 use crate::number::{era_after, generation_after};
 use crate::written::Written;
 use rld_admit::era_file;
 use rld_books::BlankBooks;
 use rld_config::Archive;
 use rld_folder::{
-    ArchivedLog, Folder, FolderFault, Generation, LogKey, NewLog, Removed, Synced, logless_eras,
+    ArchivedLog, FileName, Folder, FolderFault, Generation, LogKey, NewLog, Removed, Synced,
     older_logs,
 };
 use rld_log::{FileLog, Log, PacedLog, Pacing};
@@ -153,37 +160,112 @@ impl<'a, R: Files<File = File>> FolderGenerations<'a, R> {
         }
     }
 
-    /// Moves or removes the logs before the newest generation.
+    /// Makes the log of the generation that follows a present one in a folder with these files.
+    fn log_after(
+        &self,
+        alloc: Global,
+        names: &[FileName],
+        present: Generation,
+    ) -> Result<NextLog<FileLog>, StartFault>
+        ensures era { IfOk result (λ next. next.key.generation.era ≡ present.era) }
+        ensures newer { IfOk result (λ next. present.number < next.key.generation.number) }
+        ensures number { IfOk result (λ next. next.key.generation.number
+            ≡ greatest_by (generation_of present.era) names.now + 1) }
+    {
+        let generation = generation_after(names, present)?;
+        let NewLog { key, log } = self.folder.create_log(self.files, alloc, generation)?;
+        Ok(NextLog { key, log })
+    }
+
+    /// Makes the files of the era that follows a present one in a folder with these files, with the
+    /// table of these octets.
+    fn make_after(
+        &self,
+        alloc: Global,
+        names: &[FileName],
+        present_era: u64,
+        table: &[u8],
+        blanks: BlankBooks,
+    ) -> Result<MadeEra, StartFault>
+        ensures tabled { IfOk result (λ made. (made.tabled.era ≡ made.next.header.era)
+            × (made.tabled.digest ≡ made.next.header.digest)) }
+        ensures format { IfOk result (λ made. made.next.header.format ≡ two) }
+        ensures newer { IfOk result (λ made. present_era < made.next.header.era) }
+        ensures number { IfOk result (λ made.
+            made.next.header.era ≡ greatest_by era_of names.now + 1) }
+        ensures first { IfOk result (λ made.
+            (made.next.header.generation ≡ 1) × (made.next.header.lines ≡ 0)) }
+        ensures key { IfOk result (λ made.
+            made.next.key.generation ≡ generation_named made.next.header) }
+        ensures table { IfOk result (λ made. made.next.header.digest ≡ md5 table.now) }
+        ensures blanks { IfOk result (λ made. made.next.blanks ≡ blanks) }
+    {
+        let era = era_after(names, present_era)?;
+        make_era(self.files, alloc, &self.folder, era, table, blanks)
+    }
+
+    /// Moves or removes the logs before the generation that a store writes, once its log is on the disk.
     fn put_away_older(&self, alloc: Global, newest: Written) -> Result<(), FolderFault> {
-        let newest = newest.generation();
         let names = self.folder.files(&(self.files, alloc))?;
-        let older = older_logs(alloc, names.as_slice(), newest)?;
+        let older = older_logs(alloc, names.as_slice(), newest.generation())?;
         if older.is_empty() {
             return Ok(());
         }
-        let older = older.as_slice();
-        let synced = self.folder.sync_log(self.files, alloc, newest)?;
+        let synced = self
+            .folder
+            .sync_log(self.files, alloc, newest.generation())?;
+        self.put_away_logs(alloc, newest, older.as_slice(), &synced)
+    }
+
+    /// Moves or removes logs before the generation that a store writes, whose log is on the disk.
+    fn put_away_logs(
+        &self,
+        alloc: Global,
+        newest: Written,
+        logs: &[Generation],
+        synced: &Synced,
+    ) -> Result<(), FolderFault>
+        requires synced { synced.now.generation ≡ newest.generation }
+        requires older { All (λ log. Precedes log newest.generation) logs.now }
+    {
+        let _written = newest;
         match self.archive {
             Archive::Keep | Archive::Days(_) => {
-                self.folder.archive_logs(self.files, alloc, older, &synced)
+                self.folder.archive_logs(self.files, alloc, logs, synced)
             }
-            Archive::Nothing => self.folder.remove_logs(self.files, alloc, older, &synced),
+            Archive::Nothing => self.folder.remove_logs(self.files, alloc, logs, synced),
         }
     }
 
-    /// Removes the tables of eras before that of the newest generation that have no log, once the log
-    /// of that generation is on the disk.
+    /// Removes the tables of eras before that of the generation that a store writes that have no log,
+    /// neither in the folder nor in its archive, once the log of that generation is on the disk.
     fn remove_logless(&self, alloc: Global, newest: Written) -> Result<(), FolderFault> {
-        let names = self.folder.files(&(self.files, alloc))?;
-        let archived = self.folder.archived(&(self.files, alloc))?;
-        let names = names.as_slice();
-        let eras = logless_eras(alloc, names, archived.as_slice(), newest.generation())?;
+        let listed = Listed::of(self.files, alloc, &self.folder)?;
+        let eras = listed.logless(alloc, newest.generation())?;
         if eras.is_empty() {
             return Ok(());
         }
         let synced = self.sync(alloc, newest)?;
-        self.folder
-            .remove_eras(self.files, alloc, eras.as_slice(), &synced)
+        self.remove_tables(alloc, newest, &listed, eras.as_slice(), &synced)
+    }
+
+    /// Removes the tables of the eras of a listed folder that have no log and are before that of the
+    /// generation that a store writes, whose log is on the disk.
+    fn remove_tables(
+        &self,
+        alloc: Global,
+        newest: Written,
+        listed: &Listed,
+        eras: &[u64],
+        synced: &Synced,
+    ) -> Result<(), FolderFault>
+        requires synced { synced.now.generation ≡ newest.generation }
+        requires before { All (λ era. era < newest.generation.era) eras.now }
+        requires logless { eras.now ≡
+            logless_eras listed.now.names.items listed.now.archived.items newest.generation }
+    {
+        let (_written, _listed) = (newest, listed);
+        self.folder.remove_eras(self.files, alloc, eras, synced)
     }
 
     /// Removes the oldest logs of the archive, where it has more octets than it may.
@@ -214,9 +296,7 @@ impl<'a, R: Files<File = File>> FolderGenerations<'a, R> {
 impl<R: Files<File = File>> Generations for FolderGenerations<'_, R> {
     fn next_log(&self, alloc: Global, present: Generation) -> Result<NextLog<FileLog>, StartFault> {
         let names = self.folder.files(&(self.files, alloc))?;
-        let generation = generation_after(names.as_slice(), present)?;
-        let NewLog { key, log } = self.folder.create_log(self.files, alloc, generation)?;
-        Ok(NextLog { key, log })
+        self.log_after(alloc, names.as_slice(), present)
     }
 
     fn next_era(
@@ -228,16 +308,15 @@ impl<R: Files<File = File>> Generations for FolderGenerations<'_, R> {
     ) -> Result<NextEra<FileLog>, StartFault> {
         let table = era_file(alloc, config, boot)?;
         let names = self.folder.files(&(self.files, alloc))?;
-        let era = era_after(names.as_slice(), present_era)?;
         let blanks = BlankBooks::new(alloc, config)?;
-        make_era(
-            self.files,
+        let made = self.make_after(
             alloc,
-            &self.folder,
-            era,
+            names.as_slice(),
+            present_era,
             table.as_slice(),
             blanks,
-        )
+        )?;
+        Ok(made.next)
     }
 
     fn sync(&self, alloc: Global, written: Written) -> Result<Synced, FolderFault> {

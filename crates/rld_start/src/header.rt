@@ -26,6 +26,7 @@ pub fn check_header(header: &Header, generation: Generation, table: &[u8]) -> Re
         (λ wrong. (header_cause header.now generation table.now ≡ Some wrong.cause)
         × (wrong.offset ≡ 20)) }
     ensures named { OnOk result (header.now.digest ≡ md5 table.now) }
+    ensures generation { OnOk result (generation_named header.now ≡ generation) }
 {
     if header.era != generation.era || header.generation != generation.number {
         return Err(Wrong {

@@ -22,6 +22,7 @@ mod gap;
 mod generations;
 mod header;
 mod length;
+mod listed;
 mod look;
 mod new_era;
 mod newest;

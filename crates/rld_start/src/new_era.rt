@@ -7,7 +7,7 @@ ghost use Rattle.rld_start.specs.NextHeaders.{generation_named};
 ghost use Rattle.rld_start.specs.Numbers.{era_of, greatest_by};
 
 use crate::fault::StartFault;
-use crate::files::{create_log, write_era};
+use crate::files::{Tabled, create_log, write_era};
 use crate::header::generation_named;
 use crate::number::next_era;
 use crate::refused::log_refused;
@@ -70,6 +70,17 @@ pub(crate) struct NewEra<'a> {
     pub(crate) header: Header,
     /// The right to remove that log, which has the generation of its name.
     pub(crate) key: LogKey,
+    /// That its table was written.
+    pub(crate) tabled: Tabled,
+}
+
+/// The files of an era that were made: its table and the empty log of its first generation.
+#[derive(Drop)]
+pub(crate) struct MadeEra {
+    /// The era.
+    pub(crate) next: NextEra<FileLog>,
+    /// That its table was written.
+    pub(crate) tabled: Tabled,
 }
 
 /// Makes the files of an era with the table of these octets, under a number that no file of the
@@ -82,16 +93,18 @@ pub(crate) fn make_era<R: Files<File = File>>(
     era: u64,
     table: &[u8],
     blanks: BlankBooks,
-) -> Result<NextEra<FileLog>, StartFault>
-    ensures format { IfOk result (λ next. next.header.format ≡ two) }
-    ensures era { IfOk result (λ next. next.header.era ≡ era) }
-    ensures first { IfOk result (λ next.
-        (next.header.generation ≡ 1) × (next.header.lines ≡ 0)) }
-    ensures key { IfOk result (λ next. next.key.generation ≡ generation_named next.header) }
-    ensures table { IfOk result (λ next. next.header.digest ≡ md5 table.now) }
-    ensures blanks { IfOk result (λ next. next.blanks ≡ blanks) }
+) -> Result<MadeEra, StartFault>
+    ensures tabled { IfOk result (λ made. (made.tabled.era ≡ made.next.header.era)
+        × (made.tabled.digest ≡ made.next.header.digest)) }
+    ensures format { IfOk result (λ made. made.next.header.format ≡ two) }
+    ensures era { IfOk result (λ made. made.next.header.era ≡ era) }
+    ensures first { IfOk result (λ made.
+        (made.next.header.generation ≡ 1) × (made.next.header.lines ≡ 0)) }
+    ensures key { IfOk result (λ made. made.next.key.generation ≡ generation_named made.next.header) }
+    ensures table { IfOk result (λ made. made.next.header.digest ≡ md5 table.now) }
+    ensures blanks { IfOk result (λ made. made.next.blanks ≡ blanks) }
 {
-    write_era(files, alloc, folder, era, table)?;
+    let tabled = write_era(files, alloc, folder, era, table)?;
     let generation = Generation { era, number: FIRST };
     let NewLog { key, log } = create_log(files, alloc, folder, generation)?;
     let header = Header {
@@ -101,12 +114,13 @@ pub(crate) fn make_era<R: Files<File = File>>(
         digest: Md5::digest(table),
         lines: 0,
     };
-    Ok(NextEra {
+    let next = NextEra {
         header,
         key,
         log,
         blanks,
-    })
+    };
+    Ok(MadeEra { next, tabled })
 }
 
 /// Begins an era with the table of these octets and with these books, under a number that no file
@@ -122,6 +136,8 @@ pub(crate) fn begin_era<'a, R: Files<File = File>>(
     books: ServerBooks,
     pacing: Pacing<'a>,
 ) -> Result<NewEra<'a>, StartFault>
+    ensures tabled { IfOk result (λ begun. (begun.tabled.era ≡ begun.header.era)
+        × (begun.tabled.digest ≡ begun.header.digest)) }
     ensures format { IfOk result (λ begun. begun.header.format ≡ two) }
     ensures era { IfOk result (λ begun. begun.header.era ≡ greatest_by era_of names.now + 1) }
     ensures first { IfOk result (λ begun.
@@ -135,14 +151,20 @@ pub(crate) fn begin_era<'a, R: Files<File = File>>(
         return Err(StartFault::NoNumber);
     };
     let blanks = BlankBooks::none(alloc);
+    let MadeEra { next, tabled } = make_era(files, alloc, folder, era, table, blanks)?;
     let NextEra {
         header,
         key,
         log,
         ..
-    } = make_era(files, alloc, folder, era, table, blanks)?;
+    } = next;
     match Store::begin_with(alloc, config, header, books, PacedLog::new(log, pacing)) {
-        Ok(store) => Ok(NewEra { store, header, key }),
+        Ok(store) => Ok(NewEra {
+            store,
+            header,
+            key,
+            tabled,
+        }),
         Err(refused) => Err(log_refused(generation_named(&header), refused.fault)),
     }
 }

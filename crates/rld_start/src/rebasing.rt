@@ -20,7 +20,8 @@ use std::fs::{File, Files};
 
 /// Begins a new era in the folder of a server that is not running: with the table and the boot
 /// number of the newest generation that was begun, and with its books cut to `now`, in seconds
-/// since 1970 (`ServerBooks::cut`). The next start goes on from there.
+/// since 1970 (`ServerBooks::cut`). Its log is on the disk when this returns. The next start goes on from
+/// there.
 ///
 /// The faults are those of `start`, in their order, and `OtherAccounts` before the log is opened if
 /// the era has another table than the configuration; `NoHistory` comes if no generation was begun.
@@ -71,9 +72,13 @@ fn rebase_newest<'a, R: Files<File = File>>(
     now: u64,
     pacing: Pacing<'a>,
 ) -> Result<CutEra<'a>, StartFault>
-    requires { IsNewestBegun names.now newest }
+    requires newest { IsNewestBegun names.now newest }
+    requires always { pacing.pace ≡ Pace.Always }
+    ensures synced { IfOk result (λ cut. cut.synced.generation ≡ generation_named cut.begun.header) }
     ensures earlier { OnOk result (All (IsEarlier (generation_in newest.begun)) archived.now) }
     ensures from { IfOk result (λ cut. Some cut.from ≡ generation_in newest.begun) }
+    ensures named { OnOk result (IfSome newest.begun (λ begun.
+        generation_named begun.header ≡ begun.generation)) }
     ensures era { IfOk result (λ cut. cut.begun.header.era ≡ greatest_by era_of names.now + 1) }
     ensures written { IfOk result (λ cut. cut.begun.store.header ≡ cut.begun.header) }
     ensures key { IfOk result (λ cut. cut.begun.key.generation ≡ generation_named cut.begun.header) }
@@ -100,7 +105,10 @@ fn rebase_begun<'a, R: Files<File = File>>(
     now: u64,
     pacing: Pacing<'a>,
 ) -> Result<CutEra<'a>, StartFault>
+    requires { pacing.pace ≡ Pace.Always }
+    ensures synced { IfOk result (λ cut. cut.synced.generation ≡ generation_named cut.begun.header) }
     ensures from { IfOk result (λ cut. cut.from ≡ begun.generation) }
+    ensures named { OnOk result (generation_named begun.header ≡ begun.generation) }
     ensures era { IfOk result (λ cut. cut.begun.header.era ≡ greatest_by era_of names.now + 1) }
     ensures written { IfOk result (λ cut. cut.begun.store.header ≡ cut.begun.header) }
     ensures key { IfOk result (λ cut. cut.begun.key.generation ≡ generation_named cut.begun.header) }

@@ -6,6 +6,7 @@ ghost use Rattle.rld_books.specs.Saved.{IsServerOf};
 ghost use Rattle.rld_spelling.specs.Eras.{EraSeen, era_octets};
 ghost use Rattle.rld_spelling.specs.Tables.{table_of};
 ghost use Rattle.rld_start.specs.Going.{IsOpened};
+ghost use Rattle.rld_start.specs.NextHeaders.{generation_named};
 ghost use Rattle.rld_store.specs.Generations.{HasHistory};
 ghost use Rattle.rld_store.specs.Standing.{StandsFor};
 ghost use Rattle.rsl_shard.specs.Restep.{BooksSeen};
@@ -58,6 +59,7 @@ pub(crate) fn read_table<R: Files<File = File>>(
     ensures boot { IfOk result (λ table.
         (era : EraSeen) × ((table.octets.items ≡ era_octets era) × (era.boot ≡ table.boot))) }
     ensures named { IfOk result (λ table. begun.now.header.digest ≡ md5 table.octets.items) }
+    ensures generation { OnOk result (generation_named begun.now.header ≡ begun.now.generation) }
 {
     let generation = begun.generation();
     let octets = read_era(files, alloc, folder, generation.era)?;

@@ -1,9 +1,10 @@
 //! Starting a server from its folder.
 
-ghost use Rattle.std.specs.Prelude.{◌≡◌, ◌+◌, All, IfNone, IfOk, IfSome, IsTrue, MatchOption, None, OnOk, Some};
+ghost use Rattle.std.specs.Prelude.{◌≡◌, ◌+◌, All, Contains, IfNone, IfOk, IfSome, IsTrue, MatchOption, None, OnOk, Some};
 ghost use Rattle.md5.specs.Md5.{md5};
 ghost use Rattle.rld_books.specs.Saved.{IsServerOf};
 ghost use Rattle.rld_books.specs.Server.{new_server};
+ghost use Rattle.rld_folder.specs.Newest.{Precedes};
 ghost use Rattle.rld_spelling.specs.Eras.{era_octets};
 ghost use Rattle.rld_spelling.specs.Tables.{table_of};
 ghost use Rattle.rld_start.specs.Beginnings.{HasHistory, may_start};
@@ -88,6 +89,8 @@ pub fn start<'a, R: Files<File = File> + Alloc<A = Global> + Clone + Drop>(
     ensures server { IfOk result (λ started. IsServerOf config.now started.store.books) }
     ensures table { IfOk result (λ started. started.header.digest ≡ md5 (era_octets (table_of started.boot config.now))) }
     ensures sessions { IfOk result (λ started. AreSessionsOf started.store.books started.found.sessions) }
+    ensures behind { IfOk result (λ started.
+        IsBehind config.now started.store.books now started.found.behind) }
     ensures history { IfOk result (λ started. HasHistory new_history started.found) }
 {
     let folder = open_folder(rt, alloc, path, new_history)?;
@@ -136,10 +139,16 @@ fn take_up<'a, R: Files<File = File>>(
         (λ begun. IsBootOf begun.header started.boot)) }
     ensures table { IfOk result (λ started. started.header.digest ≡ md5 (era_octets (table_of started.boot config.now))) }
     ensures sessions { IfOk result (λ started. AreSessionsOf started.store.books started.found.sessions) }
+    ensures behind { IfOk result (λ started.
+        IsBehind config.now started.store.books now started.found.behind) }
     ensures history { IfOk result (λ started. HasHistory new_history started.found) }
     ensures follows { IfOk result (λ started. IfSome newest.begun (λ begun.
         Follows config.now begun started.header started.store.books)) }
     ensures new { IfOk result (λ started. IfNone newest.begun (started.store.books ≡ new_server config.now)) }
+    ensures named { OnOk result (IfSome newest.begun (λ begun.
+        generation_named begun.header ≡ begun.generation)) }
+    ensures after { IfOk result (λ started. IfSome newest.begun (λ begun.
+        Precedes begun.generation (generation_named started.header))) }
 {
     let generation = newest.generation();
     check_archive(archived, generation)?;
@@ -170,7 +179,11 @@ fn begin<'a, R: Files<File = File>>(
     ensures books { IfOk result (λ started. started.store.books ≡ new_server config.now) }
     ensures table { IfOk result (λ started. started.header.digest ≡ md5 (era_octets (table_of started.boot config.now))) }
     ensures sessions { IfOk result (λ started. AreSessionsOf started.store.books started.found.sessions) }
+    ensures behind { IfOk result (λ started.
+        IsBehind config.now started.store.books boot started.found.behind) }
     ensures found { IfOk result (λ started. IsFrom None started.found) }
+    ensures found_era { IfOk result (λ started. started.found.era ≡ started.header.era) }
+    ensures torn { IfOk result (λ started. started.found.torn ≡ 0) }
 {
     let table = era_file(alloc, config, boot)?;
     let books = ServerBooks::new(alloc, config)?;
@@ -184,14 +197,19 @@ fn begin<'a, R: Files<File = File>>(
         books,
         pacing,
     )?;
-    let NewEra { store, header, key } = begun;
+    let NewEra {
+        store,
+        header,
+        key,
+        ..
+    } = begun;
     let found = Found {
         era: header.era,
         generation: 0,
         moves: 0,
         sessions: sessions_in(store.rows(alloc)?.as_slice()),
         torn: 0,
-        behind: None,
+        behind: behind_books(config, store.books(), boot),
         admitted: None,
     };
     Ok(Started {
@@ -216,6 +234,10 @@ fn follow<'a, R: Files<File = File>>(
     now: u64,
     pacing: Pacing<'a>,
 ) -> Result<Started<'a>, StartFault>
+    requires there { Contains names.now (FileName.Log begun.generation) }
+    ensures named { OnOk result (generation_named begun.header ≡ begun.generation) }
+    ensures after { IfOk result (λ started.
+        Precedes begun.generation (generation_named started.header)) }
     ensures written { IfOk result (λ started. started.store.header ≡ started.header) }
     ensures key { IfOk result (λ started. started.key.generation ≡ generation_named started.header) }
     ensures server { IfOk result (λ started. IsServerOf config.now started.store.books) }
@@ -226,6 +248,8 @@ fn follow<'a, R: Files<File = File>>(
         Follows config.now begun started.header started.store.books) }
     ensures table { IfOk result (λ started. started.header.digest ≡ md5 (era_octets (table_of started.boot config.now))) }
     ensures sessions { IfOk result (λ started. AreSessionsOf started.store.books started.found.sessions) }
+    ensures behind { IfOk result (λ started.
+        IsBehind config.now started.store.books now started.found.behind) }
 {
     let table = read_table(files, alloc, &folder, &begun)?;
     if is_era_file(alloc, config, table.boot, table.octets.as_slice())? {
@@ -253,6 +277,10 @@ fn go_on<'a, R: Files<File = File>>(
 ) -> Result<Started<'a>, StartFault>
     requires spelled { table.now.octets.items ≡ era_octets (table_of table.now.boot config.now) }
     requires named { begun.header.digest ≡ md5 table.now.octets.items }
+    requires generation { generation_named begun.header ≡ begun.generation }
+    requires there { Contains names.now (FileName.Log begun.generation) }
+    ensures after { IfOk result (λ started.
+        Precedes begun.generation (generation_named started.header)) }
     ensures written { IfOk result (λ started. started.store.header ≡ started.header) }
     ensures key { IfOk result (λ started. started.key.generation ≡ generation_named started.header) }
     ensures server { IfOk result (λ started. IsServerOf config.now started.store.books) }
@@ -268,6 +296,8 @@ fn go_on<'a, R: Files<File = File>>(
     ensures new { IfOk result (λ started. IsNewNumber names.now started.header) }
     ensures table { IfOk result (λ started. started.header.digest ≡ md5 (era_octets (table_of started.boot config.now))) }
     ensures sessions { IfOk result (λ started. AreSessionsOf started.store.books started.found.sessions) }
+    ensures behind { IfOk result (λ started.
+        IsBehind config.now started.store.books now started.found.behind) }
 {
     let former = reopen(alloc, config, table, begun, pacing)?;
     go_on_from(files, alloc, config, folder, names, former, now, pacing)
@@ -296,7 +326,7 @@ fn go_on_from<'a, R: Files<File = File>>(
     ensures moves { IfOk result (λ started. started.found.moves ≡ started.header.lines) }
     ensures torn { IfOk result (λ started. started.found.torn ≡ former.entry.opened.torn) }
     ensures behind { IfOk result (λ started.
-        IsBehind config.now former.entry.opened.store.books now started.found.behind) }
+        IsBehind config.now started.store.books now started.found.behind) }
     ensures header { IfOk result (λ started. started.header ≡ header_after former.entry.header
         (greatest_by (generation_of former.entry.header.era) names.now + 1)
         former.entry.opened.moves) }

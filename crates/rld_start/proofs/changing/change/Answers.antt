@@ -1,7 +1,15 @@
 use Rattle.std.proofs.Common.{sym, ◌∙◌}
 use Rattle.std.proofs.lemmas.Result.{IfOk-weaker}
+use Rattle.rld_start.specs.NextHeaders.{generation_named}
+use Rattle.rld_start.proofs.After.{after_era}
 use Rattle.rld_start.proofs.Going.{admits_of}
 use Rattle.rld_start.proofs.changing.change.Goals as goal
+
+pub returns-clause-after : goal.returns-clause-after
+returns-clause-after g c =
+    IfOk-weaker c.change_from.result _ _
+    (λ started era. after_era c.args.names.now c.args.begun.generation (generation_named started.header) c.requires.there era)
+    c.change_from.ensures.era
 
 pub returns-clause-admits : goal.returns-clause-admits
 returns-clause-admits g c =
