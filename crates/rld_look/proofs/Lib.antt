@@ -1,3 +1,4 @@
 pub mod Noting
+mod Joined
 mod Joining
 mod Showing

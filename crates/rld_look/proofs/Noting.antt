@@ -64,7 +64,7 @@ counted end other old new is =
 
 -- ---- one more is noted
 
-ends_more : (refusals : List Refusal) (refusal : Refusal) → ends_of (refusals ++ refusal ∷ []) ≡ ends_of refusals ++ refusal.end ∷ []
+pub ends_more : (refusals : List Refusal) (refusal : Refusal) → ends_of (refusals ++ refusal ∷ []) ≡ ends_of refusals ++ refusal.end ∷ []
 ends_more [] refusal = refl
 ends_more (one ∷ refusals) refusal = ap (λ (l : List End). one.end ∷ l) (ends_more refusals refusal)
 

@@ -1,5 +1,5 @@
 -- The refusals that wait for their lines, and the numbers of those that get none.
-use Rattle.std.specs.Prelude.{◌≡◌, ◌≢◌, ℕ, ◌+◌, ◌<◌, ◌≤◌, List, [], ◌∷◌, ◌++◌, map}
+use Rattle.std.specs.Prelude.{◌≡◌, ◌≢◌, ℕ, ◌+◌, ◌<◌, ◌≤◌, List, [], ◌∷◌, ◌++◌, length, map}
 use Rattle.rld_counts.specs.Counts.{count_in, counts_of}
 use Rattle.rld_counts.specs.Ends.{number_of}
 use Rattle.rld_counts.specs.Tally.{how_many, kept}
@@ -44,6 +44,31 @@ IsNoted refusal old new Waits =
     (lines_of refusal.end old < MOST_LINES) × (new.waiting ≡ old.waiting ++ refusal ∷ []) × (new.left_out ≡ old.left_out)
 IsNoted refusal old new LeftOut = (MOST_LINES ≤ lines_of refusal.end old) × IsLeftOut refusal.end old new
 IsNoted refusal old new NoMemory = (lines_of refusal.end old < MOST_LINES) × IsLeftOut refusal.end old new
+
+-- each of these was noted, one after the other: it waits last, as it is, or it is left out
+abbrev pub AreNoted : List Refusal → (old new : BacklogSeen) → Type 0
+AreNoted [] old new = new ≡ old
+AreNoted (refusal ∷ others) old new =
+    (mid : BacklogSeen) × (noted : Noted) × IsNoted refusal old mid noted × AreNoted others mid new
+
+-- What was taken from another backlog is added: its refusals were noted, and the numbers of those
+-- that were left out there are added to those that are left out here.
+pub record IsJoined (taken old new : BacklogSeen) : Type 0 where
+  pub mid : BacklogSeen
+  pub noted : AreNoted taken.waiting old mid
+  pub waiting : new.waiting ≡ mid.waiting
+  pub left_out : (end : End) → count_in new.left_out end ≡ kept (count_in mid.left_out end + count_in taken.left_out end)
+
+-- what was taken from some backlogs is added, one after the other
+abbrev pub AreJoined : (each : List BacklogSeen) → (old new : BacklogSeen) → Type 0
+AreJoined [] old new = new ≡ old
+AreJoined (taken ∷ others) old new = (mid : BacklogSeen) × IsJoined taken old mid × AreJoined others mid new
+
+-- what was taken from so many backlogs, joined in their order, and nothing else
+pub record IsOfBacklogs (number : ℕ) (taken : BacklogSeen) : Type 0 where
+  pub each : List BacklogSeen
+  pub all : length each ≡ number
+  pub joined : AreJoined each empty_backlog taken
 
 -- of all that was noted since it was empty, what is not left out waits, of each cause; and no more
 -- than the most of a cause

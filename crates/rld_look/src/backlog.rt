@@ -1,6 +1,6 @@
 ghost use Rattle.std.specs.Prelude.{◌≡◌, ◌<◌, ◌≤◌, ◌∷◌, ◌++◌, [], true, false, List, OnErr, OnOk};
 ghost use Rattle.rld_counts.specs.declared.end.End.{End as OneEnd};
-ghost use Rattle.rld_look.specs.Backlog.{HasNoted, IsLeftOut, IsNoted, empty_backlog, ends_of, lines_of};
+ghost use Rattle.rld_look.specs.Backlog.{AreNoted, HasNoted, IsJoined, IsLeftOut, IsNoted, empty_backlog, ends_of, lines_of};
 ghost use Rattle.rld_look.specs.Refusal.{refusal_of};
 
 use crate::refusal::{Refusal, Refused};
@@ -135,10 +135,13 @@ impl Backlog {
         }
     }
 
-    /// Adds what was taken from another backlog, after what waits. If more than `MOST_LINES` of a
-    /// cause would wait, or memory is refused, they are left out, and counted.
+    /// Adds what was taken from another backlog, after what waits: each refusal as it is, in their
+    /// order. If more than `MOST_LINES` of a cause would wait, or memory is refused, they are left
+    /// out, and counted.
     pub fn join(&mut self, taken: Taken)
-        ensures { (ends others : List OneEnd) → HasNoted ends self.old →
+        ensures joined { IsJoined (record { waiting = taken.waited.items; left_out = taken.left_out })
+            self.old self.new }
+        ensures all { (ends others : List OneEnd) → HasNoted ends self.old →
             HasNoted others (record { waiting = taken.waited.items; left_out = taken.left_out }) →
             HasNoted (ends ++ others) self.new }
     {
@@ -149,40 +152,57 @@ impl Backlog {
 
     /// Adds refusals, each as `push` does.
     fn push_all(&mut self, refusals: Vec<Refusal>)
-        ensures { (ends : List OneEnd) → HasNoted ends self.old →
+        ensures noted { AreNoted refusals.items self.old self.new }
+        ensures all { (ends : List OneEnd) → HasNoted ends self.old →
             HasNoted (ends ++ ends_of refusals.items) self.new }
     {
         for refusal in refusals {
-            self.push(refusal);
+            let _ = self.push(refusal);
         }
     }
 
     /// Adds a refusal. It waits if fewer than `MOST_LINES` of its cause do; else, or if memory is
     /// refused, it is left out, and counted.
-    fn push(&mut self, refusal: Refusal)
-        ensures { (ends : List OneEnd) → HasNoted ends self.old →
+    fn push(&mut self, refusal: Refusal) -> Noted
+        ensures noted { IsNoted refusal self.old self.new result }
+        ensures all { (ends : List OneEnd) → HasNoted ends self.old →
             HasNoted (ends ++ refusal.end ∷ []) self.new }
     {
         let end = refusal.end;
         let is_full = self.is_full(end);
-        if push_unless(is_full, &mut self.waiting, refusal) {
-            self.lines.note(end);
-        } else {
-            self.left_out.note(end);
+        match push_unless(is_full, &mut self.waiting, refusal) {
+            Noted::Waits => {
+                self.lines.note(end);
+                Noted::Waits
+            }
+            Noted::LeftOut => {
+                self.left_out.note(end);
+                Noted::LeftOut
+            }
+            Noted::NoMemory => {
+                self.left_out.note(end);
+                Noted::NoMemory
+            }
         }
     }
 }
 
-/// Adds a refusal unless the list is full or memory is refused, and gives whether it has.
-fn push_unless(is_full: bool, waiting: &mut Vec<Refusal>, refusal: Refusal) -> bool
-    ensures pushed { result ≡ true →
+/// Adds a refusal unless the list is full or memory is refused, and gives what became of it.
+fn push_unless(is_full: bool, waiting: &mut Vec<Refusal>, refusal: Refusal) -> Noted
+    ensures waits { result ≡ Noted.Waits →
         (is_full ≡ false) × (waiting.new.items ≡ waiting.old.items ++ refusal ∷ []) }
-    ensures same { result ≡ false → waiting.new.items ≡ waiting.old.items }
+    ensures left_out { result ≡ Noted.LeftOut →
+        (is_full ≡ true) × (waiting.new.items ≡ waiting.old.items) }
+    ensures no_memory { result ≡ Noted.NoMemory →
+        (is_full ≡ false) × (waiting.new.items ≡ waiting.old.items) }
 {
     if is_full {
-        return false;
+        return Noted::LeftOut;
     }
-    waiting.push(refusal).is_ok()
+    match waiting.push(refusal) {
+        Ok(()) => Noted::Waits,
+        Err(_) => Noted::NoMemory,
+    }
 }
 
 /// Adds the refusal of a datagram. It fails only if memory is refused.

@@ -8,12 +8,28 @@ use std::sync::Wait;
 use std::time::Clock;
 
 /// A server that can be shown.
+///
+/// To contracts it can say which looks are its own, so that what is made of a look can be said to be
+/// of one that this server gave. By default it says nothing of them.
 pub trait Shown {
-    /// What it now shows of itself. It fails only if memory is refused.
-    fn take_look(&self) -> Result<Look, NoMemory>;
+    ghost use Rattle.std.specs.Prelude.{ℕ, IfOk};
+    ghost use Rattle.rld_look.specs.declared.look.AccountsLook.{AccountsLook as OneAccountsLook};
+    ghost use Rattle.rld_look.specs.declared.look.Look.{Look as OneLook};
+
+    /// Whether this look was taken of it at this moment.
+    ghost shows: { ℕ → OneLook → Type 0 } = { λ _ _. Unit {0} };
+
+    /// Whether its accounts have held this.
+    ghost holds: { OneAccountsLook → Type 0 } = { λ _. Unit {0} };
+
+    /// What it now shows of itself, for one who calls this moment `now`. It fails only if memory is
+    /// refused.
+    fn take_look(&self, now: u64) -> Result<Look, NoMemory>
+        ensures shown { IfOk result (shows now) };
 
     /// What its accounts now hold. It fails only if memory is refused.
-    fn take_accounts(&self) -> Result<AccountsLook, NoMemory>;
+    fn take_accounts(&self) -> Result<AccountsLook, NoMemory>
+        ensures held { IfOk result holds };
 
     /// Whether the server is to end.
     fn is_over(&self) -> bool;

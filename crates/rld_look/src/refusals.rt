@@ -1,3 +1,6 @@
+ghost use Rattle.std.specs.Prelude.{length};
+ghost use Rattle.rld_look.specs.Backlog.{IsOfBacklogs};
+
 use crate::backlog::{Backlog, Taken};
 use crate::lately::Lately;
 use crate::refusal::{Refusal, Refused, is_refusal};
@@ -50,10 +53,13 @@ impl Refusals {
 
     /// Takes what waits at all receivers, at most `MOST_LINES` of each cause, and the counts of
     /// what was left out since the last call. Those of one receiver are together, oldest first.
-    pub fn take<R: Wait>(&self, rt: &R, alloc: Global) -> Taken {
+    pub fn take<R: Wait>(&self, rt: &R, alloc: Global) -> Taken
+        ensures { IsOfBacklogs (length self.now.backlogs.items)
+            (record { waiting = result.waited.items; left_out = result.left_out }) }
+    {
         let mut all = Backlog::new(alloc);
         for backlog in self.backlogs.as_slice() {
-            all.join(backlog.lock(rt).take(alloc));
+            all.join(take_at(rt, alloc, backlog));
         }
         all.take(alloc)
     }
@@ -67,4 +73,9 @@ impl Refusals {
     pub fn lately<R: Wait>(&self, rt: &R, alloc: Global) -> Result<Vec<Refusal>, NoMemory> {
         self.lately.lock(rt).copies(alloc)
     }
+}
+
+/// Takes what waits at a receiver, and its counts.
+fn take_at<R: Wait>(rt: &R, alloc: Global, backlog: &Mutex<Backlog>) -> Taken {
+    backlog.lock(rt).take(alloc)
 }

@@ -1,10 +1,14 @@
 -- Whatever a cell holds are the counts of some datagrams.
-use Rattle.std.proofs.Common.{◌≡◌, ℕ, ◌==◌, Bool, true, false, List, [], ◌∷◌, ◌++◌, length, eq-eqb, ne_eqb, subst, sym}
+use Rattle.std.proofs.Common.{◌≡◌, ℕ, ◌==◌, Bool, true, false, List, [], ◌∷◌, ◌++◌, length, eq-eqb, ne_eqb, ap, refl, subst, sym, ◌∙◌}
 use Rattle.std.proofs.Math.Logic.{∥∥₁_map, ∥∥₁_map₂}
-use Rattle.std.specs.Prelude.{if◌then◌else◌}
+use Rattle.std.specs.Prelude.{if◌then◌else◌, option_map, Option, None, Some}
 use Rattle.rld_counts.specs.Cell.{CellSeen, HasCounted, without_clients}
+use Rattle.rld_counts.specs.declared.end.End.{End}
 use Rattle.rld_counts.specs.declared.ended.Ended.{Ended}
-use Rattle.rld_watch.specs.Counted.{IsCount, for_clients}
+use Rattle.rld_turn.specs.Told.{Told}
+use Rattle.rld_watch.specs.Counted.{IsCount, count_of, for_clients}
+use Rattle.rld_watch.specs.Ending.{end_at}
+use Rattle.rld_watch.specs.declared.gate.Gate.{Gate}
 
 pub none_counted : (cell : CellSeen) → HasCounted [] cell → ∥ IsCount cell ∥₁
 none_counted cell none = ∣ record { all = []; counted = none } ∣₁
@@ -66,3 +70,14 @@ pub added_to_none : (clients : ℕ) (old other new : CellSeen)
     → HasCounted (all ++ for_clients clients other others) new)
     → HasCounted [] old → (had : List Ended) → HasCounted had other → HasCounted (for_clients clients other had) new
 added_to_none clients old other new added none had counted = added [] had none counted
+
+-- the end of what is counted is that of what is told
+same_end : (found : Option End) (client micros : Option ℕ)
+    → option_map (λ (one : Ended). one.end) (option_map (λ (end : End). record { end = end; client = client; micros = micros }) found) ≡ found
+same_end None client micros = refl
+same_end (Some end) client micros = refl
+
+pub end_counted : (gate : Gate) (told : Told) (micros : Option ℕ) (counted : Ended) → Some counted ≡ count_of gate told micros
+    → Some counted.end ≡ end_at gate told
+end_counted gate told micros counted is =
+    ap (option_map (λ (one : Ended). one.end)) is ∙ same_end (end_at gate told) told.client _

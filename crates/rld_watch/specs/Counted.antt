@@ -1,6 +1,7 @@
 -- What is counted of a datagram, and what a look finds.
 use Rattle.std.specs.Prelude.{ℕ, ◌==◌, Bool, true, false, List, length, option_map, Option, None, if◌then◌else◌}
 use Rattle.rld_counts.specs.Cell.{CellSeen, HasCounted, without_clients}
+use Rattle.rld_counts.specs.declared.end.End.{End}
 use Rattle.rld_counts.specs.declared.ended.Ended.{Ended}
 use Rattle.rld_turn.specs.Told.{Told, is_answered}
 use Rattle.rld_watch.specs.Ending.{end_at}
@@ -20,6 +21,10 @@ count_of gate told micros =
       client = told.client;
       micros = time_if (is_answered told.end) micros;
     }) (end_at gate told)
+
+-- what is counted of a request that was refused unread: its end alone
+abbrev pub unread : End → Ended
+unread end = record { end = end; client = None; micros = None }
 
 -- a cell has counted some datagrams, and nothing else
 pub record IsCount (cell : CellSeen) : Type 0 where

@@ -4,7 +4,8 @@ ghost use Rattle.std.specs.List.{range_with_len};
 use crate::counted::Counted;
 use crate::gate::Gate;
 use crate::reading::Reading;
-use rld_counts::{ClientCounts, Ended};
+use rld_counts::{ClientCounts, End};
+use rld_turn::Ended;
 use std::alloc::{AllocError, Global};
 use std::sync::{Mutex, Wait};
 
@@ -17,9 +18,20 @@ pub(crate) struct Place {
 }
 
 impl Place {
-    /// Counts a datagram.
-    pub(crate) fn note<R: Wait>(&self, rt: &R, ended: Ended) {
-        self.counted.lock(rt).note(ended);
+    /// Counts a datagram by what a watcher learns of it, and gives how it is counted. Its answer took
+    /// `micros` microseconds.
+    pub(crate) fn note<R: Wait>(
+        &self,
+        rt: &R,
+        ended: &Ended<'_>,
+        micros: Option<u64>,
+    ) -> Option<End> {
+        self.counted.lock(rt).note_told(self.gate, ended, micros)
+    }
+
+    /// Counts requests that were refused unread: `number` of them, with this end.
+    pub(crate) fn note_unread<R: Wait>(&self, rt: &R, end: End, number: u64) {
+        self.counted.lock(rt).note_unread(end, number);
     }
 }
 

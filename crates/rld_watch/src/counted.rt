@@ -1,9 +1,14 @@
-ghost use Rattle.std.specs.Prelude.{◌≡◌, ◌∷◌, ◌++◌, [], IfOk, List, length};
+ghost use Rattle.std.specs.Prelude.{◌≡◌, ◌∷◌, ◌++◌, [], IfOk, List, length, option_to_list, replicate};
 ghost use Rattle.rld_counts.specs.Cell.{HasCounted, without_clients};
 ghost use Rattle.rld_counts.specs.declared.ended.Ended.{Ended as OneEnded};
-ghost use Rattle.rld_watch.specs.Counted.{IsCount, for_clients};
+ghost use Rattle.rld_turn.specs.Told.{is_answered, told_as};
+ghost use Rattle.rld_watch.specs.Counted.{IsCount, count_of, for_clients, time_if, unread};
+ghost use Rattle.rld_watch.specs.Ending.{end_at};
 
-use rld_counts::{Cell, ClientCounts, Counts, Ended};
+use crate::ending::end_at;
+use crate::gate::Gate;
+use rld_counts::{Cell, ClientCounts, Counts, End, Ended};
+use rld_turn::{End as TurnEnd, Ended as ToldEnded};
 use std::alloc::{AllocError, Global};
 
 /// The counts of a receiver, as its lock protects them: at any look they are those of some
@@ -32,6 +37,38 @@ impl Counted {
             HasCounted (all ++ ended ∷ []) self.new.cell }
     {
         self.cell.note(ended);
+    }
+
+    /// Counts a datagram that came to this gate, by what a watcher learns of it, and gives how it is
+    /// counted. Its answer took `micros` microseconds. There is always something to count, as `laws`
+    /// says.
+    pub(crate) fn note_told(
+        &mut self,
+        gate: Gate,
+        ended: &ToldEnded<'_>,
+        micros: Option<u64>,
+    ) -> Option<End>
+        ensures counted { (all : List OneEnded) → HasCounted all self.old.cell →
+            HasCounted (all ++ option_to_list (count_of gate (told_as ended.now) micros)) self.new.cell }
+        ensures end { result ≡ end_at gate (told_as ended.now) }
+    {
+        let counted = count_of(gate, ended, micros)?;
+        self.note(counted);
+        Some(counted.end)
+    }
+
+    /// Counts requests that were refused unread: `number` of them, with this end and of no client.
+    pub(crate) fn note_unread(&mut self, end: End, number: u64)
+        ensures { (all : List OneEnded) → HasCounted all self.old.cell →
+            HasCounted (all ++ replicate number (unread end)) self.new.cell }
+    {
+        for _ in 0..number {
+            self.note(Ended {
+                end,
+                client: None,
+                micros: None,
+            });
+        }
     }
 
     /// How all datagrams ended.
@@ -73,5 +110,28 @@ impl Counted {
         ensures { result ≡ self.cell }
     {
         self.cell
+    }
+}
+
+/// What is counted of a datagram that came to this gate, by what a watcher learns of it, if its
+/// answer took `micros` microseconds. There is always something, as `laws` says.
+fn count_of(gate: Gate, ended: &ToldEnded<'_>, micros: Option<u64>) -> Option<Ended>
+    ensures { result ≡ count_of gate (told_as ended.now) micros }
+{
+    let end = end_at(gate, ended)?;
+    Some(Ended {
+        end,
+        client: ended.client,
+        micros: time_if(ended.end, micros),
+    })
+}
+
+/// The time of the answer, if one was sent.
+fn time_if(end: TurnEnd, micros: Option<u64>) -> Option<u64>
+    ensures { result ≡ time_if (is_answered end) micros }
+{
+    match end {
+        TurnEnd::Answered(_) => micros,
+        TurnEnd::Dropped(_) | TurnEnd::Refused | TurnEnd::Unrecorded | TurnEnd::Unsent(_) => None,
     }
 }

@@ -1,15 +1,12 @@
 ghost use Rattle.std.specs.Prelude.{◌≡◌, IfSome, Some as some, slice_get};
-ghost use Rattle.rld_turn.specs.Told.{is_answered, told_as};
-ghost use Rattle.rld_watch.specs.Counted.{count_of, time_if};
+ghost use Rattle.rld_turn.specs.Told.{told_as};
 ghost use Rattle.rld_watch.specs.Noted.{IsNotedAs};
 
 use crate::board::{Board, Place};
-use crate::ending::end_at;
-use crate::gate::Gate;
-use rld_counts::{End as CountedEnd, Ended as CountedEnded};
+use rld_counts::End as CountedEnd;
 use rld_look::{Refusals, Refused, is_refusal};
 use rld_networks::canonical;
-use rld_turn::{End, Ended, Watch};
+use rld_turn::{Ended, Watch};
 use std::alloc::Global;
 use std::sync::Wait;
 use std::time::{Clock, Duration, Instant};
@@ -64,16 +61,7 @@ impl<'a, R: Wait + Clock> Watcher<'a, R> {
     /// Counts requests that were refused before they came to a turn: `number` of them, with this end
     /// and of no client. They get no lines.
     pub fn count_unread(&self, end: CountedEnd, number: u64) {
-        for _ in 0..number {
-            self.place.note(
-                self.rt,
-                CountedEnded {
-                    end,
-                    client: None,
-                    micros: None,
-                },
-            );
-        }
+        self.place.note_unread(self.rt, end, number);
     }
 
     /// The time of the turn so far in microseconds, if the clock can be read.
@@ -111,9 +99,8 @@ impl<R: Wait + Clock> Watch for Watcher<'_, R> {
 
     fn note(&mut self, ended: Ended<'_>) {
         let micros = self.micros();
-        if let Some(counted) = count_of(self.place.gate, &ended, micros) {
-            self.place.note(self.rt, counted);
-            self.note_refusal(&ended, counted.end);
+        if let Some(end) = self.place.note(self.rt, &ended, micros) {
+            self.note_refusal(&ended, end);
         }
     }
 }
@@ -129,29 +116,6 @@ fn refused_as<'b>(moment: u64, ended: &Ended<'b>, end: CountedEnd) -> Refused<'b
         client: ended.client,
         octets: ended.octets,
         end,
-    }
-}
-
-/// What is counted of a datagram that came to this gate, by what a watcher learns of it, if its
-/// answer took `micros` microseconds. There is always something, as `laws` says.
-fn count_of(gate: Gate, ended: &Ended<'_>, micros: Option<u64>) -> Option<CountedEnded>
-    ensures { result ≡ count_of gate (told_as ended.now) micros }
-{
-    let end = end_at(gate, ended)?;
-    Some(CountedEnded {
-        end,
-        client: ended.client,
-        micros: time_if(ended.end, micros),
-    })
-}
-
-/// The time of the answer, if one was sent.
-fn time_if(end: End, micros: Option<u64>) -> Option<u64>
-    ensures { result ≡ time_if (is_answered end) micros }
-{
-    match end {
-        End::Answered(_) => micros,
-        End::Dropped(_) | End::Refused | End::Unrecorded | End::Unsent(_) => None,
     }
 }
 
