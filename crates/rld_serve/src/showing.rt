@@ -12,7 +12,7 @@ use std::sync::Wait;
 use std::time;
 
 impl<'a, G, A, R: time::Clock + Wait> Shown for Server<'a, G, A, R> {
-    fn take_look(&self) -> Result<Look, NoMemory> {
+    fn take_look(&self, _now: u64) -> Result<Look, NoMemory> {
         self.look()
     }
 

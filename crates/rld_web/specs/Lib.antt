@@ -1,3 +1,4 @@
 pub mod Answer
+pub mod Fresh
 pub mod Path
 pub mod Place

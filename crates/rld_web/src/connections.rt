@@ -1,5 +1,8 @@
 //! All connections, served from one thread.
 
+ghost use Rattle.std.specs.Prelude.{◌≡◌, ◌<◌, ◌≤◌, IfSome, IsTrue};
+ghost use Rattle.rld_web.specs.Fresh.{is_fresh};
+
 use crate::http_connection::{HttpConnection, Turn};
 use crate::page_service::PageService;
 use circular_buffer::HeapCircularBuffer;
@@ -116,12 +119,18 @@ impl Connections {
     }
 }
 
-/// A turn of a connection.
+/// A turn of a connection: it leaves if its time is over, and is else served under its own local
+/// address.
 fn turn<S: Shown>(
     connection: &mut HttpConnection,
     service: &mut PageService<'_, S>,
     now: u64,
-) -> Turn {
+) -> Turn
+    ensures over { connection.old.until ≤ now → (result ≡ Turn.Leaves) × (service.new ≡ service.old) }
+    ensures place { now < connection.old.until → service.new.place ≡ connection.old.place }
+    ensures fresh { now < connection.old.until →
+        IfSome service.new.look (λ _. IsTrue (is_fresh service.new.look service.new.taken now)) }
+{
     if connection.left(now) == 0 {
         return Turn::Leaves;
     }

@@ -1,5 +1,7 @@
 //! An HTTP connection.
 
+ghost use Rattle.std.specs.Prelude.{◌≡◌, ◌-◌};
+
 use crate::page_service::PageService;
 use http_server::{Config, Connection};
 use http1::Limits;
@@ -69,17 +71,27 @@ impl HttpConnection {
     }
 
     /// The local address of the connection.
-    pub(crate) fn place(&self) -> SocketAddrV4 {
+    pub(crate) fn place(&self) -> SocketAddrV4
+        ensures { result ≡ self.now.place }
+    {
         self.place
     }
 
     /// The milliseconds that it still has at this moment.
-    pub(crate) fn left(&self, now: u64) -> u64 {
+    pub(crate) fn left(&self, now: u64) -> u64
+        ensures { result ≡ self.now.until - now }
+    {
         self.until.saturating_sub(now)
     }
 
-    /// Does what can be done without blocking, for a limited number of moves.
-    pub(crate) fn take_turn<S: Shown>(&mut self, service: &mut PageService<'_, S>) -> Turn {
+    /// Does what can be done without blocking, for a limited number of moves. The service has to
+    /// answer requests to the local address of this connection.
+    pub(crate) fn take_turn<S: Shown>(&mut self, service: &mut PageService<'_, S>) -> Turn
+        requires { service.old.place ≡ self.old.place }
+        ensures look { service.new.look ≡ service.old.look }
+        ensures taken { service.new.taken ≡ service.old.taken }
+        ensures place { service.new.place ≡ service.old.place }
+    {
         for _ in 0..MOVES {
             match self.take_step(service) {
                 Ok(Turn::GoesOn) => {}
@@ -93,11 +105,15 @@ impl HttpConnection {
 
     /// Answers what has come, and moves octets once. After the answer what still comes is read and
     /// discarded, until the peer has closed too.
-    fn take_step<S: Shown>(&mut self, service: &mut PageService<'_, S>) -> io::Result<Turn> {
+    fn take_step<S: Shown>(&mut self, service: &mut PageService<'_, S>) -> io::Result<Turn>
+        ensures look { service.new.look ≡ service.old.look }
+        ensures taken { service.new.taken ≡ service.old.taken }
+        ensures place { service.new.place ≡ service.old.place }
+    {
         if self.is_answered {
             return self.discard();
         }
-        self.connection.advance(service);
+        answer(&mut self.connection, service);
         if self.connection.is_done() {
             self.is_answered = true;
             self.stream.shutdown(Shutdown::Write)?;
@@ -126,6 +142,15 @@ impl HttpConnection {
             _ => Ok(Turn::GoesOn),
         }
     }
+}
+
+/// Answers what has come.
+fn answer<S: Shown>(connection: &mut Connection, service: &mut PageService<'_, S>)
+    ensures look { service.new.look ≡ service.old.look }
+    ensures taken { service.new.taken ≡ service.old.taken }
+    ensures place { service.new.place ≡ service.old.place }
+{
+    connection.advance(service);
 }
 
 /// The limits of a connection.

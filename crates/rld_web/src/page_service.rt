@@ -1,7 +1,8 @@
-ghost use Rattle.std.specs.Prelude.{◌≡◌, IfOk, IfSome, OnOk, Some};
+ghost use Rattle.std.specs.Prelude.{◌≡◌, IfOk, IfSome, IsFalse, IsTrue, MatchOption, OnOk, None, Some};
 ghost use Rattle.http_server.specs.Response.{IsBlank};
 ghost use Rattle.rld_look.specs.Health.{health_of};
 ghost use Rattle.rld_web.specs.Answer.{Answers, HasAnswered, IsRead, IsRefusedMethod, IsShown, IsTextOf, is_reading, status_of};
+ghost use Rattle.rld_web.specs.Fresh.{is_fresh};
 ghost use Rattle.rld_web.specs.Path.{path_of};
 
 use crate::answer::{fill, refuse};
@@ -20,6 +21,8 @@ use std::net::SocketAddrV4;
 /// How long a look is shown to all clients, in milliseconds.
 const LOOK_MILLIS: u64 = 1_000;
 
+const _: () = prove!(LOOK_MILLIS == 1_000);
+
 /// Answers requests from a look at the server, which is at most a second old when a request is
 /// read; and from one at its accounts, which is taken once they are asked for, and is no older.
 #[derive(Drop)]
@@ -34,7 +37,11 @@ pub(crate) struct PageService<'a, S: Shown> {
 
 impl<'a, S: Shown> PageService<'a, S> {
     /// A service at this place, without a look.
-    pub(crate) fn new(alloc: Global, server: &'a S, place: SocketAddrV4) -> PageService<'a, S> {
+    pub(crate) fn new(alloc: Global, server: &'a S, place: SocketAddrV4) -> PageService<'a, S>
+        ensures look { result.look ≡ None }
+        ensures accounts { result.accounts ≡ None }
+        ensures place { result.place ≡ place }
+    {
         PageService {
             alloc,
             server,
@@ -45,19 +52,28 @@ impl<'a, S: Shown> PageService<'a, S> {
         }
     }
 
-    /// Looks at the server if the last look is a second old, at this moment in milliseconds. If
-    /// memory for it is refused, there is none, and no request is answered.
-    pub(crate) fn look_at(&mut self, now: u64) {
+    /// Looks at the server if the last look is a second old, at this moment in milliseconds, and
+    /// forgets what its accounts held. If memory for the look is refused, there is none, and no
+    /// request is answered. A look that is younger stays.
+    pub(crate) fn look_at(&mut self, now: u64)
+        ensures kept { IsTrue (is_fresh self.old.look self.old.taken now) → self.new ≡ self.old }
+        ensures anew { IsFalse (is_fresh self.old.look self.old.taken now) →
+            self.new ≡ record self.old { look = self.new.look; accounts = None; taken = now } }
+        ensures shown { IsFalse (is_fresh self.old.look self.old.taken now) →
+            IfSome self.new.look (S.shows now) }
+    {
         if self.look.is_some() && now.saturating_sub(self.taken) < LOOK_MILLIS {
             return;
         }
-        self.look = self.server.take_look().ok();
+        self.look = self.server.take_look(now).ok();
         self.accounts = None;
         self.taken = now;
     }
 
     /// Answers requests to this place from now on.
-    pub(crate) fn turn_to(&mut self, place: SocketAddrV4) {
+    pub(crate) fn turn_to(&mut self, place: SocketAddrV4)
+        ensures { self.new ≡ record self.old { place = place } }
+    {
         self.place = place;
     }
 }
@@ -65,8 +81,8 @@ impl<'a, S: Shown> PageService<'a, S> {
 impl<S: Shown> Service for PageService<'_, S> {
     ghost answers = { λ old request response new.
         HasAnswered old.look new.accounts old.place request response
-        × (new.look ≡ old.look) × (new.place ≡ old.place)
-        × IfSome old.accounts (λ accounts. new.accounts ≡ Some accounts) };
+        × (new.look ≡ old.look) × (new.taken ≡ old.taken) × (new.place ≡ old.place)
+        × MatchOption old.accounts (IfSome new.accounts S.holds) (λ accounts. new.accounts ≡ Some accounts) };
 
     fn call(
         &mut self,

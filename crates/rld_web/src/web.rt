@@ -1,3 +1,7 @@
+ghost use Rattle.std.specs.Prelude.{◌≡◌, IfOk};
+ghost use Rattle.std.specs.Net.Addr.{ipv4_octets};
+ghost use Rattle.std.specs.Net.Socket.{v4_ip, v4_port};
+
 use crate::connections::Connections;
 use crate::page_service::PageService;
 use rld_look::{Pages, Shown};
@@ -23,16 +27,19 @@ pub struct Web {
 }
 
 impl Web {
-    /// Binds the address and TCP port. The keys are secret, since strangers choose the names of
-    /// header fields. The error is the system's: the address is not this machine's, or the port is
-    /// taken or not allowed.
+    /// Binds the address and TCP port, and keeps them. The keys are secret, since strangers choose
+    /// the names of header fields. The error is the system's: the address is not this machine's, or
+    /// the port is taken or not allowed.
     pub fn bind<N: Net<Listener = TcpListener, Stream = TcpStream>>(
         net: &N,
         alloc: Global,
         keys: RandomState,
         address: [u8; 4],
         port: u16,
-    ) -> io::Result<Web> {
+    ) -> io::Result<Web>
+        ensures address { IfOk result (λ web. ipv4_octets (v4_ip web.place) ≡ address) }
+        ensures port { IfOk result (λ web. v4_port web.place ≡ port) }
+    {
         let place = SocketAddrV4::new(Ipv4Addr::from(address), port);
         let listener = TcpListener::bind(net, SocketAddr::V4(place))?;
         listener.set_nonblocking(true)?;

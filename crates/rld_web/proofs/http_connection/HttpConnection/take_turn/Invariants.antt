@@ -1,0 +1,9 @@
+use Rattle.std.proofs.Common.{◌≡◌}
+use Rattle.rld_web.proofs.http_connection.HttpConnection.take_turn.Given as goal
+
+abbrev pub invariant-loop : goal.invariant-loop
+invariant-loop g l = record {
+  look : l.service.look ≡ l.fn.service.look;
+  taken : l.service.taken ≡ l.fn.service.taken;
+  place : l.service.place ≡ l.fn.service.place;
+}
