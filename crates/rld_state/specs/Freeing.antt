@@ -1,5 +1,5 @@
 -- What comes of a session that is to be freed, or of all those of an access server.
-use Rattle.std.specs.Prelude.{◌≡◌, ⊤, ℕ, Bool, true, false, ◌||◌, List, [], ◌∷◌, ◌++◌, Option, Some, None, codes}
+use Rattle.std.specs.Prelude.{◌≡◌, ◌⊎◌, ⊤, ℕ, Bool, true, false, List, [], ◌∷◌, ◌++◌, Option, Some, None, codes}
 use Rattle.rsl_accounts.specs.Configuration.{Configuration}
 use Rattle.rsl_shard.specs.Restep.{BooksSeen}
 use Rattle.rsl_shard.specs.declared.moved.Move.{Move}
@@ -72,11 +72,18 @@ StaysUnheld old new (Done recorded) = ⊤
 StaysUnheld old new (NotHeld unheld) = new ≡ old
 StaysUnheld old new Unrecorded = ⊤
 
--- where the record failed that is noted: another batch may be recorded, or nothing more can be
-abbrev pub IsNoted : (has_failed has_ended : Bool) → Freed → Type 0
-IsNoted has_failed has_ended (Done recorded) = ⊤
-IsNoted has_failed has_ended (NotHeld unheld) = ⊤
-IsNoted has_failed has_ended Unrecorded = (has_failed || has_ended) ≡ true
+-- what a state has noted of its records: whether a batch was not recorded, and whether nothing more can be
+pub record Noted : Type 0 where
+  pub failed : Bool
+  pub ended : Bool
+
+-- Where the record failed that is noted: another batch may be recorded, or nothing more can be. What was noted
+-- before stays so, and nothing else is noted.
+abbrev pub IsNoted : (old new : Noted) → Freed → Type 0
+IsNoted old new (Done recorded) = new ≡ old
+IsNoted old new (NotHeld unheld) = new ≡ old
+IsNoted old new Unrecorded =
+    (new ≡ record { failed = true; ended = old.ended }) ⊎ (new ≡ record { failed = old.failed; ended = true })
 
 -- what an operator is told of it; nothing where it was not recorded, since then it is not done
 abbrev pub octets_of_freed : Freed → Option (List ℕ)

@@ -9,12 +9,6 @@ use Rattle.rld_state.specs.declared.roll_fault.NotBegun.TheVariants.{PassedOver,
 use Rattle.rld_state.specs.declared.roll_fault.RollFault.{RollFault}
 use Rattle.rld_state.specs.declared.roll_fault.RollFault.TheVariants as rolls
 
--- nothing more can be recorded
-abbrev pub is_ended : {T : Type 0} → Result T RecordFault → Bool
-is_ended (Ok value) = false
-is_ended (Err Failed) = false
-is_ended (Err Ended) = true
-
 -- a batch was not recorded, and another may be
 abbrev pub is_failed : {T : Type 0} → Result T RecordFault → Bool
 is_failed (Ok value) = false

@@ -1,4 +1,5 @@
 pub mod Clock
+pub mod Disconnecting
 pub mod Due
 pub mod Freeing
 pub mod Headers

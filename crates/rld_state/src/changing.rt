@@ -1,6 +1,6 @@
 //! Changing the accounts of a running server, within its era or with a new one.
 
-ghost use Rattle.std.specs.Prelude.{◌≡◌, ◌<◌, ◌||◌, [], true, ℕ, IfErr, IfOk, IsErrOf, IsTrue, OnErr, OnOk};
+ghost use Rattle.std.specs.Prelude.{◌≡◌, ◌<◌, ◌||◌, [], false, true, ℕ, IfErr, IfOk, IsErrOf, IsTrue, OnErr, OnOk};
 ghost use Rattle.std.specs.Arc.{arc_value};
 ghost use Rattle.rld_admit.specs.Admitted.{AreAdmitted};
 ghost use Rattle.rld_books.specs.Saved.{IsServerOf};
@@ -77,6 +77,7 @@ impl<L: Log + Drop> ServerState<L> {
         ensures header { OnOk result (self.new.header ≡ next.header) }
         ensures moves { OnOk result (self.new.moves ≡ 0) }
         ensures server { OnOk result (IsServerOf (arc_value config) self.new.recorder.books) }
+        ensures over { OnOk result (self.new.recorder.is_over ≡ false) }
         ensures admitted { OnOk result ((boot after : ℕ) →
             AreAdmitted (table_of boot (arc_value self.old.config)) self.old.recorder.books
             (table_of after (arc_value config)) self.new.recorder.books) }
@@ -141,6 +142,7 @@ impl<L: Log + Drop> ServerState<L> {
         ensures header { IfOk result (λ opening. opening.header ≡ header) }
         ensures written { IfOk result (λ opening. opening.store.header ≡ header) }
         ensures server { IfOk result (λ opening. IsServerOf config.now opening.store.books) }
+        ensures over { IfOk result (λ opening. opening.store.is_over ≡ false) }
         ensures admitted { IfOk result (λ opening. (boot after : ℕ) →
             AreAdmitted (table_of boot (arc_value self.now.config)) self.now.recorder.books
             (table_of after config.now) opening.store.books) }
@@ -194,6 +196,7 @@ impl<L: Log + Drop> ServerState<L> {
     ) -> Result<Store<L>, RollFault>
         ensures header { IfOk result (λ store. store.header ≡ header) }
         ensures server { IfOk result (λ store. IsServerOf config.now store.books) }
+        ensures over { IfOk result (λ store. store.is_over ≡ false) }
         ensures admitted { IfOk result (λ store. (boot after : ℕ) →
             AreAdmitted (table_of boot (arc_value self.now.config)) self.now.recorder.books
             (table_of after config.now) store.books) }

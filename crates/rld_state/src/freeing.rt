@@ -66,10 +66,14 @@ impl<L: Log + Drop> ServerState<L> {
         ensures header { self.new.header ≡ self.old.header }
         ensures config { self.new.config ≡ self.old.config }
         ensures not_held { IfOk result (StaysUnheld self.old self.new) }
-        ensures unrecorded { IfOk result (IsNoted self.new.has_failed self.new.has_ended) }
+        ensures noted { IfOk result (IsNoted
+            (record { failed = self.old.has_failed; ended = self.old.has_ended })
+            (record { failed = self.new.has_failed; ended = self.new.has_ended })) }
         ensures err { OnErr result (self.new ≡ self.old) }
         ensures account { IsErrOf result FreeFault.UnknownAccount ↔
             (account_number (arc_value self.old.config) named.now.account ≡ None) }
+        ensures client { IsErrOf result FreeFault.UnknownClient →
+            client_number (arc_value self.old.config) named.now.client ≡ None }
 
         // The store has recorded what it had before, and that Stop.
         ensures stands { IsTrue (L.tells self.new.recorder.log) →
@@ -95,7 +99,9 @@ impl<L: Log + Drop> ServerState<L> {
         ensures header { self.new.header ≡ self.old.header }
         ensures config { self.new.config ≡ self.old.config }
         ensures not_held { IfOk result (StaysUnheld self.old self.new) }
-        ensures unrecorded { IfOk result (IsNoted self.new.has_failed self.new.has_ended) }
+        ensures noted { IfOk result (IsNoted
+            (record { failed = self.old.has_failed; ended = self.old.has_ended })
+            (record { failed = self.new.has_failed; ended = self.new.has_ended })) }
         ensures err { OnErr result (self.new ≡ self.old) }
 
         // The store has recorded what it had before, and that Stop.
@@ -139,7 +145,9 @@ impl<L: Log + Drop> ServerState<L> {
         ensures moves { IfOk result (λ freed. self.new.moves ≡ moves_after_it self.old.moves freed) }
         ensures header { self.new.header ≡ self.old.header }
         ensures config { self.new.config ≡ self.old.config }
-        ensures unrecorded { IfOk result (IsNoted self.new.has_failed self.new.has_ended) }
+        ensures noted { IfOk result (IsNoted
+            (record { failed = self.old.has_failed; ended = self.old.has_ended })
+            (record { failed = self.new.has_failed; ended = self.new.has_ended })) }
         ensures err { OnErr result (self.new ≡ self.old) }
         ensures client { IsErrOf result FreeFault.UnknownClient ↔
             (client_number (arc_value self.old.config) named.now.client ≡ None) }
@@ -167,7 +175,9 @@ impl<L: Log + Drop> ServerState<L> {
         ensures moves { IfOk result (λ freed. self.new.moves ≡ moves_after_it self.old.moves freed) }
         ensures header { self.new.header ≡ self.old.header }
         ensures config { self.new.config ≡ self.old.config }
-        ensures unrecorded { IfOk result (IsNoted self.new.has_failed self.new.has_ended) }
+        ensures noted { IfOk result (IsNoted
+            (record { failed = self.old.has_failed; ended = self.old.has_ended })
+            (record { failed = self.new.has_failed; ended = self.new.has_ended })) }
         ensures err { OnErr result (self.new ≡ self.old) }
 
         // The store has recorded what it had before, and that restart.
@@ -190,7 +200,7 @@ impl<L: Log + Drop> ServerState<L> {
     }
 
     /// Whether a link is bound to the session that a Stop ends.
-    fn holds(&self, alloc: Global, stop: &Stop) -> Result<bool, NoMemory>
+    pub(crate) fn holds(&self, alloc: Global, stop: &Stop) -> Result<bool, NoMemory>
         ensures { IfOk result (λ held. held ≡ is_held_in self.now.recorder.books stop.now) }
     {
         match self.recorder().links(alloc, stop.account)? {

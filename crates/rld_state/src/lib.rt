@@ -16,6 +16,7 @@
 mod archived;
 mod changing;
 mod clock;
+mod disconnecting;
 mod freeing;
 mod listing;
 mod not_held;
@@ -36,7 +37,7 @@ pub use freeing::Freed;
 pub use listing::LinksPage;
 pub use not_held::NotHeld;
 pub use places::places_in;
-pub use reload_result::{EraChange, ReloadFault, Reloaded};
+pub use reload_result::{EraChange, PresentEra, ReloadFault, Reloaded};
 pub use roll_fault::{NotBegun, Notice, RollFault, notice_of_archive, notice_of_roll};
 pub use state::ServerState;
 pub use timer::RollTimer;

@@ -1,10 +1,10 @@
 //! Recording in a store, and what is noted of it.
 
-ghost use Rattle.std.specs.Prelude.{◌≡◌, ◌++◌, ◌↔◌, length, List, IfOk, IsTrue, OnErr, OnOk};
+ghost use Rattle.std.specs.Prelude.{◌≡◌, ◌++◌, ◌↔◌, false, length, List, IfOk, IsTrue, OnErr, OnOk};
 ghost use Rattle.rld_books.specs.Saved.{IsServerOf};
 ghost use Rattle.rld_books.specs.Server.{decisions_of, replay};
-ghost use Rattle.rld_state.specs.Keeping.{is_ended, is_failed, moves_after};
-ghost use Rattle.rld_store.specs.Recorded.{AreDecided, IsOfEra};
+ghost use Rattle.rld_state.specs.Keeping.{is_failed, moves_after};
+ghost use Rattle.rld_store.specs.Recorded.{AreDecided, IsOfEra, is_ended};
 ghost use Rattle.rld_store.specs.Stored.{HasRecorded};
 ghost use Rattle.rsl_accounts.specs.Configuration.{Configuration};
 ghost use Rattle.rsl_shard.specs.Restep.{BooksSeen};
@@ -15,7 +15,8 @@ use rld_store::{RecordFault, Recorded, Store};
 use rsl_shard::Move;
 use std::alloc::Global;
 
-/// Records a batch in a store. The store goes on in the generation that it writes.
+/// Records a batch in a store. The store goes on in the generation that it writes. `Ended` comes where
+/// its log can record nothing more, and `Failed` where a batch was not recorded and another may be.
 pub(crate) fn record_in<L: Log>(
     store: &mut Store<L>,
     alloc: Global,
@@ -26,6 +27,7 @@ pub(crate) fn record_in<L: Log>(
     ensures decided { IfOk result AreDecided }
     ensures era { IfOk result (λ recorded. recorded.era ≡ store.old.header.era) }
     ensures header { store.new.header ≡ store.old.header }
+    ensures over { store.old.is_over ≡ false → store.new.is_over ≡ is_ended result }
     ensures server { (config : Configuration) →
         IsServerOf config store.old.books → IsServerOf config store.new.books }
     ensures decisions { IfOk result (λ recorded.

@@ -1,34 +1,47 @@
+ghost use Rattle.std.specs.Prelude.{◌≡◌};
+ghost use Rattle.rld_state.specs.Keeping.{fault_of};
+ghost use Rattle.rld_state.specs.declared.reload_result.ReloadFault.TheVariants.{NoMemory as no_memory, NotBegun as unbegun};
+
 use crate::roll_fault::{NotBegun, RollFault};
 use std::alloc::{AllocError, AllocFailed};
 use std::fmt;
 use thiserror::Error;
 
-/// The result of a reload. It prints as the line of an answer, without its line feed.
+/// The result of a reload. It prints as the line of an answer, without its line feed. The state of a
+/// server alone makes what it holds, where it has gone on so.
 #[derive(Clone, Copy)]
 pub enum Reloaded {
-    /// The era with this number goes on: names, rules, addresses and shards are as before.
-    GoesOn(u64),
+    /// The present era goes on: names, rules, addresses and shards are as before.
+    GoesOn(PresentEra),
     /// A new era has begun.
     Begun(EraChange),
 }
 
-/// The change of a running server from one era to the next.
+/// The era in which a running server has gone on by other accounts. Only `ServerState::go_on` makes
+/// one.
+#[derive(Clone, Copy)]
+pub struct PresentEra {
+    /// Its number.
+    pub(crate) era: u64,
+}
+
+/// The change of a running server from one era to the next. Only `ServerState::begin_era` makes one.
 #[derive(Clone, Copy)]
 pub struct EraChange {
     /// The number of the era that has ended.
-    pub former: u64,
+    pub(crate) former: u64,
     /// The number of sessions that held a link in the era that has ended.
-    pub held: u64,
+    pub(crate) held: u64,
     /// The number of the era that has begun.
-    pub era: u64,
+    pub(crate) era: u64,
     /// The number of those sessions that go on.
-    pub sessions: u64,
+    pub(crate) sessions: u64,
 }
 
 impl fmt::Display for Reloaded {
     fn fmt<W: fmt::Write>(&self, f: &mut fmt::Formatter<W>) -> fmt::Result {
         match self {
-            Reloaded::GoesOn(era) => write!(f, "era {era} goes on"),
+            Reloaded::GoesOn(present) => write!(f, "era {} goes on", present.era),
             Reloaded::Begun(change) => write!(
                 f,
                 "era {}: {} of {} sessions of era {} go on",
@@ -53,24 +66,32 @@ pub enum ReloadFault {
 }
 
 impl From<RollFault> for ReloadFault {
+    ghost from_gives = { λ fault made. made ≡ unbegun fault };
+
     fn from(fault: RollFault) -> ReloadFault {
         ReloadFault::NotBegun(fault)
     }
 }
 
 impl From<NotBegun> for ReloadFault {
+    ghost from_gives = { λ refused made. made ≡ unbegun (fault_of refused) };
+
     fn from(refused: NotBegun) -> ReloadFault {
         ReloadFault::NotBegun(RollFault::from(refused))
     }
 }
 
 impl From<AllocError> for ReloadFault {
+    ghost from_gives = { λ _ made. made ≡ no_memory };
+
     fn from(_refused: AllocError) -> ReloadFault {
         ReloadFault::NoMemory
     }
 }
 
 impl<T: Drop> From<AllocFailed<T>> for ReloadFault {
+    ghost from_gives = { λ _ made. made ≡ no_memory };
+
     fn from(_refused: AllocFailed<T>) -> ReloadFault {
         ReloadFault::NoMemory
     }

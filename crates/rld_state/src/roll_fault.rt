@@ -2,7 +2,8 @@ ghost use Rattle.std.specs.Prelude.{◌≡◌, is_err};
 ghost use Rattle.rld_state.specs.Keeping.{fault_of};
 ghost use Rattle.rld_state.specs.Notices.{archive_notice, roll_notice};
 ghost use Rattle.rld_state.specs.declared.roll_fault.RollFault.TheVariants.{Start as unmade};
-ghost use Rattle.rld_start.specs.declared.fault.StartFault.{StartFault as OneStartFault};
+ghost use Rattle.rld_start.specs.Faults.{fault_of_folder};
+ghost use Rattle.rld_start.specs.declared.fault.StartFault.TheVariants.{NoMemory as no_memory};
 
 use crate::trouble::{News, Trouble};
 use rld_folder::{FolderFault, Removed};
@@ -58,7 +59,7 @@ impl From<StartFault> for RollFault {
 }
 
 impl From<FolderFault> for RollFault {
-    ghost from_gives = { λ _ made. (fault : OneStartFault) × (made ≡ unmade fault) };
+    ghost from_gives = { λ fault made. made ≡ unmade (fault_of_folder fault) };
 
     fn from(fault: FolderFault) -> RollFault {
         RollFault::Start(StartFault::from(fault))
@@ -66,7 +67,7 @@ impl From<FolderFault> for RollFault {
 }
 
 impl From<NoMemory> for RollFault {
-    ghost from_gives = { λ _ made. (fault : OneStartFault) × (made ≡ unmade fault) };
+    ghost from_gives = { λ _ made. made ≡ unmade no_memory };
 
     fn from(_refused: NoMemory) -> RollFault {
         RollFault::Start(StartFault::NoMemory)

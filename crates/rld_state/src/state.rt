@@ -1,14 +1,13 @@
-ghost use Rattle.std.specs.Prelude.{◌≡◌, ◌<◌, ℕ, true, length, Err, IfErr, IfOk, IsErrOf, OnErr, OnOk, List, [], ◌++◌, ◌||◌, ◌↔◌, false, IsTrue, MatchResult, Ok};
+ghost use Rattle.std.specs.Prelude.{◌≡◌, ◌<◌, ℕ, true, length, Err, IfErr, IfNone, IfOk, IfSome, IsErrOf, IsSome, OnErr, OnOk, OnSome, List, [], ◌++◌, ◌||◌, ◌↔◌, false, IsTrue, MatchResult, Ok};
 ghost use Rattle.std.specs.Arc.{arc_value};
-ghost use Rattle.std.specs.Bool.{OnFalse, OnTrue};
 ghost use Rattle.rld_books.specs.Saved.{IsServerOf};
 ghost use Rattle.rld_books.specs.Server.{decisions_of, replay};
 ghost use Rattle.rld_state.specs.Headers.{IsHeaderOf};
-ghost use Rattle.rld_state.specs.Keeping.{IsGone, ends, is_ended, is_failed, is_over, moves_after};
+ghost use Rattle.rld_state.specs.Keeping.{IsGone, ends, is_failed, is_over, moves_after};
 ghost use Rattle.rld_spelling.specs.Tables.{table_of};
 ghost use Rattle.rld_start.specs.NextHeaders.{generation_named, header_after};
 ghost use Rattle.rld_store.specs.Premises.{Only};
-ghost use Rattle.rld_store.specs.Recorded.{AreDecided, IsOfEra};
+ghost use Rattle.rld_store.specs.Recorded.{AreDecided, IsOfEra, is_ended};
 ghost use Rattle.rld_store.specs.Standing.{StandsFor};
 ghost use Rattle.rld_store.specs.Stored.{HasRecorded};
 ghost use Rattle.rld_store.specs.declared.fault.RecordFault.TheVariants.{Ended as over, Failed as failed};
@@ -18,6 +17,7 @@ ghost use Rattle.rsl_shard.specs.declared.moved.Move.{Move as OneMove};
 
 use crate::changing::Opening;
 use crate::recording::{is_ended, is_failed, is_of_era, moves_after, record_in};
+use crate::reload_result::{PresentEra, Reloaded};
 use crate::roll_fault::{NotBegun, RollFault};
 use rld_folder::{FolderFault, Generation, LogKey, Removed};
 use rld_log::Log;
@@ -86,6 +86,10 @@ impl<L: Log + Drop> ServerState<L> {
         ensures config { self.new.config ≡ self.old.config }
 
         ensures boot { self.new.boot ≡ self.old.boot }
+
+        // As long as the store could record more, it is noted exactly whether it still can.
+        ensures over { self.old.has_ended ≡ false → self.old.recorder.is_over ≡ false →
+            self.new.has_ended ≡ self.new.recorder.is_over }
 
         // The decisions are those of the books, which have made the moves, or are as they were.
         ensures decisions { IfOk result (λ recorded.
@@ -297,6 +301,7 @@ impl<L: Log + Drop> ServerState<L> {
         ensures ended { self.new.has_ended ≡ (self.old.has_ended || is_over result) }
         ensures failed { self.new.has_failed ≡ self.old.has_failed }
         ensures books { self.new.recorder.books ≡ self.old.recorder.books }
+        ensures over { self.new.recorder.is_over ≡ self.old.recorder.is_over }
         ensures older { IfOk result (λ older. older ≡ self.old.recorder.log) }
 
         // The store stands for the same history, by the next log alone.
@@ -351,6 +356,7 @@ impl<L: Log + Drop> ServerState<L> {
 
         // The store stands for the same history, by the next log alone.
         ensures books { self.new.recorder.books ≡ self.old.recorder.books }
+        ensures over { self.new.recorder.is_over ≡ self.old.recorder.is_over }
         ensures stands { IsTrue (L.tells self.new.recorder.log) → Only (L.seen log) (L.may_leave log) →
             (config : Configuration) (opening : List BooksSeen) (history unanswered : List OneMove) →
             StandsFor config opening self.old.recorder.counts L.tears self.old.recorder.end (L.seen self.old.recorder.log)
@@ -381,12 +387,15 @@ impl<L: Log + Drop> ServerState<L> {
         }
     }
 
-    /// Goes on by other accounts in the present era, if it has their table, and gives whether it has; where
-    /// it has not, all is as before. Nothing is copied or made for it, since receivers rest meanwhile.
-    pub fn go_on(&mut self, config: Arc<Config>) -> bool
-        ensures same { (boot : ℕ) → IsTrue result ↔
+    /// Goes on by other accounts in the present era, if it has their table, and gives that era; where it
+    /// has not, it gives `None`, and all is as before. Nothing is copied or made for it, since receivers
+    /// rest meanwhile.
+    pub fn go_on(&mut self, config: Arc<Config>) -> Option<Reloaded>
+        ensures same { (boot : ℕ) → IsSome result ↔
             (table_of boot (arc_value self.old.config) ≡ table_of boot (arc_value config)) }
-        ensures config { OnTrue result (self.new.config ≡ config) }
+        ensures era { IfSome result (λ reloaded.
+            reloaded ≡ Reloaded.GoesOn (record { era = self.old.header.era })) }
+        ensures config { OnSome result (self.new.config ≡ config) }
         ensures recorder { self.new.recorder ≡ self.old.recorder }
         ensures header { self.new.header ≡ self.old.header }
         ensures boot { self.new.boot ≡ self.old.boot }
@@ -394,7 +403,7 @@ impl<L: Log + Drop> ServerState<L> {
         ensures moves { self.new.moves ≡ self.old.moves }
         ensures ended { self.new.has_ended ≡ self.old.has_ended }
         ensures failed { self.new.has_failed ≡ self.old.has_failed }
-        ensures kept { OnFalse result (self.new ≡ self.old) }
+        ensures kept { IfNone result (self.new ≡ self.old) }
 
         // The store stands for its history by the accounts that the state then has.
         ensures stands { (opening : List BooksSeen) (history unanswered : List OneMove) →
@@ -407,9 +416,12 @@ impl<L: Log + Drop> ServerState<L> {
     {
         let goes_on = is_same_era(&*self.config, &*config);
         if goes_on {
+            let era = self.header.era;
             self.config = config;
+            Some(Reloaded::GoesOn(PresentEra { era }))
+        } else {
+            None
         }
-        goes_on
     }
 
     /// Goes on in an era that was begun, by its accounts under this boot number, and hands out the

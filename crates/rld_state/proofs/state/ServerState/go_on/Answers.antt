@@ -17,18 +17,22 @@ asked_of one other a b same this that is boot =
     (subst (λ (y : Configuration). IsTrue same ↔ (table_of boot one ≡ table_of boot y)) that (is boot))
 
 pub returns-then-goes_on-clause-same : goal.returns-then-goes_on-clause-same
-returns-then-goes_on-clause-same g c =
-    asked_of c.deref.result.now c.deref-2.result.now (arc_value c.args.self.now.config) (arc_value c.args.config) c.is_same_era-goes_on.result
-    (search rules) (search rules) c.is_same_era-goes_on.ensures
+returns-then-goes_on-clause-same g c = λ boot.
+    subst (λ (same : Bool). IsTrue same ↔ (table_of boot (arc_value c.args.self.now.config) ≡ table_of boot (arc_value c.args.config))) c.if-goes_on.true
+    (asked_of c.deref.result.now c.deref-2.result.now (arc_value c.args.self.now.config) (arc_value c.args.config) c.is_same_era-goes_on.result
+    (search rules) (search rules) c.is_same_era-goes_on.ensures boot)
 
 pub returns-else-goes_on-clause-same : goal.returns-else-goes_on-clause-same
-returns-else-goes_on-clause-same g c =
-    asked_of c.deref.result.now c.deref-2.result.now (arc_value c.args.self.now.config) (arc_value c.args.config) c.is_same_era-goes_on.result
-    (search rules) (search rules) c.is_same_era-goes_on.ensures
+returns-else-goes_on-clause-same g c = λ boot.
+    subst (λ (same : Bool). IsTrue same ↔ (table_of boot (arc_value c.args.self.now.config) ≡ table_of boot (arc_value c.args.config))) c.if-goes_on.false
+    (asked_of c.deref.result.now c.deref-2.result.now (arc_value c.args.self.now.config) (arc_value c.args.config) c.is_same_era-goes_on.result
+    (search rules) (search rules) c.is_same_era-goes_on.ensures boot)
 
 pub returns-then-goes_on-clause-stands : goal.returns-then-goes_on-clause-stands
 returns-then-goes_on-clause-stands g c = λ opening history unanswered stands.
-    still_stands 0 (arc_value c.args.self.now.config) (arc_value c.args.config) ((returns-then-goes_on-clause-same g c 0).0 c.if-goes_on.true)
+    still_stands 0 (arc_value c.args.self.now.config) (arc_value c.args.config)
+    ((asked_of c.deref.result.now c.deref-2.result.now (arc_value c.args.self.now.config) (arc_value c.args.config) c.is_same_era-goes_on.result
+    (search rules) (search rules) c.is_same_era-goes_on.ensures 0).0 c.if-goes_on.true)
     opening c.args.self.now.recorder.counts g.L.Log.tears c.args.self.now.recorder.end (g.L.Log.seen c.args.self.now.recorder.log) (g.L.Log.may_leave c.args.self.now.recorder.log)
     c.args.self.now.recorder.whole c.args.self.now.recorder.books history unanswered stands
 
