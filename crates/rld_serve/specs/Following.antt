@@ -5,6 +5,8 @@ use Rattle.rld_edges.specs.declared.fault.RunFault.TheVariants.{Threads, Down, U
 use Rattle.rld_edges.specs.declared.shutdown.Start.{Start}
 use Rattle.rld_edges.specs.declared.shutdown.Start.TheVariants as starts
 use Rattle.rld_state.specs.Due.{just_begun, put_off}
+use Rattle.rld_state.specs.declared.roll_fault.RollFault.{RollFault}
+use Rattle.rld_state.specs.declared.roll_fault.RollFault.TheVariants as rolls
 use Rattle.rld_state.specs.declared.timer.RollTimer.{RollTimer}
 use Rattle.rld_store.specs.declared.fault.RecordFault.{RecordFault}
 use Rattle.rld_store.specs.declared.fault.RecordFault.TheVariants as records
@@ -35,6 +37,13 @@ abbrev pub failed_by : {T : Type 0} → Result T RecordFault → (has_failed : B
 failed_by (Ok ticked) has_failed = Ok has_failed
 failed_by (Err records.Failed) has_failed = Ok true
 failed_by (Err records.Ended) has_failed = Err Unsynced
+
+-- The timer once the next generation was due: it has begun, or is put off. The worker ends where nothing more can be
+-- recorded.
+abbrev pub timer_after : {T : Type 0} → RollTimer → Result T RollFault → Result RollTimer RunFault
+timer_after due (Ok begun) = Ok just_begun
+timer_after due (Err rolls.Ended) = Err Unsynced
+timer_after due (Err fault) = Ok (put_off due)
 
 -- what follows where the next generation was due: its timer has just begun, or its begin is put off
 abbrev pub HasBegun : (due new : RollTimer) → Type 0

@@ -1,21 +1,23 @@
 //! Answers to operators. No lock is held while an answer is made of a look, or written.
 
-ghost use Rattle.std.specs.Prelude.{◌≡◌, ◌<◌, IfErr, IfOk, IfSome, Some, length};
+ghost use Rattle.std.specs.Prelude.{◌≡◌, ◌<◌, IfErr, IfNone, IfOk, IfSome, None, Some, length};
 ghost use Rattle.std.specs.Arc.{arc_value};
 ghost use Rattle.rld_control.specs.Reply.{reply_octets};
-ghost use Rattle.rld_control.specs.declared.command.Command.TheVariants.{Disconnect};
 ghost use Rattle.rld_state.specs.Freeing.{TellsFreed, WasFreed, WereFreed, octets_of_freed};
 ghost use Rattle.rld_state.specs.declared.freeing.Freed.TheVariants as outcomes;
-ghost use Rattle.rld_serve.specs.Answering.{IsAnswerTo, IsPageFrom, ShowsAccounts, ShowsSessions};
+ghost use Rattle.rld_serve.specs.Answering.{Answers, IsFaultFor, IsPageFrom, IsHeardOf, ShowsAccounts, ShowsPage, ShowsSessions, session_of};
+ghost use Rattle.rld_serve.specs.Disconnecting.{IsUnknownIn};
+ghost use Rattle.rld_serve.specs.Hearing.{HasHeardOne};
 ghost use Rattle.rld_serve.specs.declared.ask_fault.AskFault.TheVariants.{NoMemory, Unrecorded};
 ghost use Rattle.rsl_accounts.specs.Configuration.{account_number};
 
 use crate::accounts::Accounts;
 use crate::ask_fault::AskFault;
+use crate::hearing::Hear;
 use crate::server::Server;
 use crate::status::status_of;
 use rld_control::{
-    AccountLinks, Command, Form, Listing, NamedServer, NamedSession, Reply, Selection,
+    AccountLinks, Command, Form, FreeFault, Listing, NamedServer, NamedSession, Reply, Selection,
 };
 use rld_edges::Operator;
 use rld_lists::{Holder, Shown, accounts_text, links_text, page_text};
@@ -32,13 +34,12 @@ use std::sync::atomic::Ordering;
 use std::sync::{Arc, Wait};
 use std::time;
 
-/// The answer to a command.
-#[derive(Drop)]
-enum Answer {
-    /// Its octets.
-    Now(Vec<u8>),
-    /// It comes once an access server has answered, or has not, whether this session is disconnected.
-    Later(NamedSession),
+/// When an operator hears the answer to his command.
+enum Heard {
+    /// At once.
+    Now,
+    /// Once an access server has answered, or has not.
+    Later,
 }
 
 /// What an account holds.
@@ -70,62 +71,71 @@ where
 
     /// Answers an operator who has connected, unless he names a session that is to be disconnected.
     fn answer_now(&self, stream: &UnixStream) -> Option<NamedSession> {
-        let Ok(operator) = Operator::new(self.rt, stream) else {
+        let Ok(mut operator) = Operator::new(self.rt, stream) else {
             return None;
         };
         match operator.asked(self.alloc) {
-            Ok(Some(command)) => self.do_command(&operator, command),
+            Ok(Some(command)) => match self.do_command(&mut operator, &command) {
+                Heard::Now => None,
+                Heard::Later => session_of(command),
+            },
             Ok(None) => {
-                operator.answer(AskFault::UnknownCommand.text().as_bytes());
+                operator.hear(AskFault::UnknownCommand.text().as_bytes());
                 None
             }
             Err(error) => {
                 if error.kind() == ErrorKind::OutOfMemory {
-                    operator.answer(AskFault::NoMemory.text().as_bytes());
+                    operator.hear(AskFault::NoMemory.text().as_bytes());
                 }
                 None
             }
         }
     }
 
-    /// Does a command, and sends the answer, unless that comes later: then it gives the session.
-    fn do_command(&self, operator: &Operator<'_, R>, command: Command) -> Option<NamedSession>
-        ensures { IfSome result (λ named. command ≡ Disconnect named) }
+    /// Does a command, and has the operator hear the answer, unless that comes later.
+    fn do_command<H: Hear>(&self, operator: &mut H, command: &Command) -> Heard
+        ensures now { result ≡ Heard.Now →
+            HasHeardOne (IsHeardOf command.now) (H.heard operator.old) (H.heard operator.new) }
+        ensures later { result ≡ Heard.Later → H.heard operator.new ≡ H.heard operator.old }
+        ensures named { result ≡ Heard.Later → session_of command.now ≡ None → ⊥ }
     {
         match self.answer_to(command) {
-            Ok(Answer::Now(text)) => {
-                operator.answer(text.as_slice());
-                None
+            Some(Ok(text)) => {
+                operator.hear(text.as_slice());
+                Heard::Now
             }
-            Ok(Answer::Later(named)) => Some(named),
-            Err(fault) => {
-                operator.answer(fault.text().as_bytes());
-                None
+            Some(Err(fault)) => {
+                operator.hear(fault.text().as_bytes());
+                Heard::Now
             }
+            None => Heard::Later,
         }
     }
 
-    /// Does a command, and gives the answer.
-    fn answer_to(&self, command: Command) -> Result<Answer, AskFault>
-        ensures { IfOk result (IsAnswerTo command) }
+    /// Does a command, and gives the answer, or why it is not done; `None` where the answer comes
+    /// later.
+    fn answer_to(&self, command: &Command) -> Option<Result<Vec<u8>, AskFault>>
+        ensures later { IfNone result (session_of command.now ≡ None → ⊥) }
+        ensures done { IfSome result (λ answer.
+            IfOk answer (λ octets. Answers command.now octets.items)) }
+        ensures fault { IfSome result (λ answer. IfErr answer (IsFaultFor command.now)) }
     {
-        let text = match command {
-            Command::Status(form) => self.status(form),
+        Some(match command {
+            Command::Status(form) => self.status(*form),
             Command::Ready => self.ready(),
-            Command::Accounts(form, selection) => self.accounts(form, selection),
-            Command::Sessions(form, name) => self.sessions(form, name.as_slice()),
-            Command::Links(listing) => self.links(&listing),
-            Command::Free(named) => self.free(&named),
-            Command::FreeServer(named) => self.free_server(&named),
-            Command::Disconnect(named) => return Ok(Answer::Later(named)),
+            Command::Accounts(form, selection) => self.accounts(*form, *selection),
+            Command::Sessions(form, name) => self.sessions(*form, name.as_slice()),
+            Command::Links(listing) => self.links(listing),
+            Command::Free(named) => self.free(named),
+            Command::FreeServer(named) => self.free_server(named),
+            Command::Disconnect(_) => return None,
             Command::Ask(form) => self.ask(form.as_slice()),
             Command::Reload => self.reload(),
             Command::Stop => {
                 self.shutdown.end();
                 self.told(Reply::Done(b""))
             }
-        };
-        Ok(Answer::Now(text?))
+        })
     }
 
     /// The octets of an answer. It fails only if memory is refused.
@@ -200,7 +210,9 @@ where
 
     /// The answer to `links`: a page of the links of all accounts, made of a copy. The accounts have
     /// changed where no account has the name with which the page begins: an earlier page had it.
-    fn links(&self, listing: &Listing) -> Result<Vec<u8>, AskFault> {
+    fn links(&self, listing: &Listing) -> Result<Vec<u8>, AskFault>
+        ensures { IfOk result (λ octets. ShowsPage listing.now octets.items) }
+    {
         let HeldPage { config, page } = self.page_from(&listing.from)?;
         let shown = Shown {
             config: &*config,
@@ -265,21 +277,32 @@ where
     }
 
     /// Frees the places of all sessions of an access server, and gives the outcome.
-    fn server_freed(&self, named: &NamedServer) -> Result<Freed, AskFault>
-        ensures freed { IfOk result (WereFreed named.now) }
-        ensures fault { IfErr result (λ fault. fault ≡ Unrecorded → ⊥) }
+    fn server_freed(&self, named: &NamedServer) -> Result<Freed, FreeFault>
+        ensures { IfOk result (WereFreed named.now) }
     {
-        let mut state = self.state.lock(self.rt);
-        Ok(state.free_server(self.alloc, named, self.moment())?)
+        let moment = self.moment();
+        self.state
+            .lock(self.rt)
+            .free_server(self.alloc, named, moment)
     }
 
     /// Frees the place of a session, and gives the outcome. The lock is held from the look at the accounts and the
     /// links until its Stop is recorded.
-    pub(crate) fn freed(&self, named: &NamedSession) -> Result<Freed, AskFault>
+    pub(crate) fn freed(&self, named: &NamedSession) -> Result<Freed, FreeFault>
         ensures freed { IfOk result (WasFreed named.now) }
-        ensures fault { IfErr result (λ fault. fault ≡ Unrecorded → ⊥) }
+        ensures fault { IfErr result (IsUnknownIn named.now) }
     {
-        let mut state = self.state.lock(self.rt);
-        Ok(state.free(self.alloc, named, self.moment())?)
+        let moment = self.moment();
+        self.state.lock(self.rt).free(self.alloc, named, moment)
+    }
+}
+
+/// The session that a command has disconnected, if it does that.
+fn session_of(command: Command) -> Option<NamedSession>
+    ensures { result ≡ session_of command }
+{
+    match command {
+        Command::Disconnect(named) => Some(named),
+        _ => None,
     }
 }

@@ -5,6 +5,7 @@ use rld_turn::PeerPort;
 use rsl_accounts::Config;
 use rsl_port::PortFault;
 use std::alloc::{AllocError, Global};
+use std::collections::VecDeque;
 use std::net::{Ipv4Addr, SocketAddr, SocketAddrV4};
 
 /// The UDP port that the request of each ask comes from, which no datagram of a network has.
@@ -20,7 +21,7 @@ pub(crate) struct AskPort {
     requests: Vec<Vec<u8>>,
     next: usize,
     peer: SocketAddr,
-    replies: Vec<Vec<u8>>,
+    replies: VecDeque<Vec<u8>>,
 }
 
 impl AskPort {
@@ -47,12 +48,12 @@ impl AskPort {
             requests,
             next: 0,
             peer: SocketAddr::V4(SocketAddrV4::new(Ipv4Addr::from(client), SOURCE_PORT)),
-            replies: Vec::with_capacity(alloc, asks.len())?,
+            replies: VecDeque::with_capacity(alloc, asks.len())?,
         })
     }
 
     /// The replies, in the order in which they were sent.
-    pub(crate) fn into_replies(self) -> Vec<Vec<u8>>
+    pub(crate) fn into_replies(self) -> VecDeque<Vec<u8>>
         ensures { result ≡ self.replies }
     {
         self.replies
@@ -74,7 +75,7 @@ impl PeerPort for AskPort {
         let Ok(reply) = Vec::from_slice(self.alloc, octets) else {
             return Err(PortFault);
         };
-        match self.replies.push(reply) {
+        match self.replies.push_back(reply) {
             Ok(()) => Ok(()),
             Err(_) => Err(PortFault),
         }

@@ -1,7 +1,8 @@
-ghost use Rattle.std.specs.Prelude.{◌≡◌, [], IfOk, false, true};
-ghost use Rattle.rld_serve.specs.Asking.{said_in};
+ghost use Rattle.std.specs.Prelude.{◌≡◌, [], IfOk, true};
+ghost use Rattle.rld_serve.specs.Asking.{outcome_noted, said_in};
+ghost use Rattle.rld_serve.specs.Noting.{HasKept, noted_if, noted_of};
 
-use rld_ask::Refused;
+use rld_ask::{Outcome, Refused};
 use rld_counts::{AskEnd, End as CountedEnd};
 use rld_turn::{End, Ended, MAX_BATCH, Watch};
 use rld_watch::Watcher;
@@ -10,16 +11,24 @@ use std::alloc::{AllocError, Global};
 use std::sync::Wait;
 use std::time::Clock;
 
-/// How the request of an ask ended.
+/// How the request of an ask ended, and what was read of it. Only what a watcher learns makes one.
 #[derive(Clone, Copy)]
 pub(crate) struct Noted {
-    /// How it ended.
-    pub(crate) end: End,
-    /// What was read of it.
-    pub(crate) detail: Option<Detail>,
+    end: End,
+    detail: Option<Detail>,
 }
 
 impl Noted {
+    /// How a request ended, of which a watcher learned this.
+    fn of(ended: &Ended<'_>) -> Noted
+        ensures { result ≡ noted_of ended.now }
+    {
+        Noted {
+            end: ended.end,
+            detail: ended.detail,
+        }
+    }
+
     /// What was answered to it, if anything was.
     pub(crate) fn said(&self) -> Option<Said>
         ensures { result ≡ said_in self.now.end }
@@ -29,9 +38,16 @@ impl Noted {
             _ => None,
         }
     }
+
+    /// What became of the ask.
+    pub(crate) fn outcome(&self) -> Outcome
+        ensures { result ≡ outcome_noted self.now }
+    {
+        Outcome::of(self.said(), self.detail)
+    }
 }
 
-/// A watcher of asks: it counts each by its end, and keeps how each request of a turn ended.
+/// A watcher of asks: it counts each by its end, and keeps how each request ended, until it is to forget that.
 #[derive(Drop)]
 pub(crate) struct AskWatch<'a, R: Wait + Clock> {
     watcher: Watcher<'a, R>,
@@ -60,10 +76,10 @@ impl<'a, R: Wait + Clock> AskWatch<'a, R> {
             .count_unread(CountedEnd::Ask(AskEnd::BadRequest), other);
     }
 
-    /// How each request of the last turn ended, in their order; none where one of them could not be kept.
+    /// How each request ended since it was last to forget, in their order; none where one of them could not be
+    /// kept.
     pub(crate) fn noted(&self) -> &[Noted]
-        ensures whole { self.now.is_whole ≡ true → result.now ≡ self.now.noted.items }
-        ensures cut { self.now.is_whole ≡ false → result.now ≡ [] }
+        ensures { result.now ≡ noted_if self.now.is_whole self.now.noted.items }
     {
         if self.is_whole {
             self.noted.as_slice()
@@ -71,23 +87,40 @@ impl<'a, R: Wait + Clock> AskWatch<'a, R> {
             &[]
         }
     }
+
+    /// Forgets what it has kept.
+    pub(crate) fn forget(&mut self)
+        ensures none { self.new.noted.items ≡ [] }
+        ensures whole { self.new.is_whole ≡ true }
+    {
+        self.noted.clear();
+        self.is_whole = true;
+    }
+
+    /// Keeps how a request ended, after those before it. Where memory is refused it is lost.
+    fn keep(&mut self, ended: &Ended<'_>)
+        ensures { HasKept (noted_of ended.now) self.old.is_whole self.new.is_whole
+            self.old.noted.items self.new.noted.items }
+    {
+        if self.noted.push(Noted::of(ended)).is_err() {
+            self.is_whole = false;
+        }
+    }
 }
 
 impl<R: Wait + Clock> Watch for AskWatch<'_, R> {
-    fn begin(&mut self) {
-        self.noted.clear();
-        self.is_whole = true;
+    fn begin(&mut self)
+        ensures noted { self.new.noted.items ≡ self.old.noted.items }
+        ensures whole { self.new.is_whole ≡ self.old.is_whole }
+    {
         self.watcher.begin();
     }
 
-    fn note(&mut self, ended: Ended<'_>) {
-        let noted = Noted {
-            end: ended.end,
-            detail: ended.detail,
-        };
-        if self.noted.push(noted).is_err() {
-            self.is_whole = false;
-        }
+    fn note(&mut self, ended: Ended<'_>)
+        ensures { HasKept (noted_of ended.entry) self.old.is_whole self.new.is_whole
+            self.old.noted.items self.new.noted.items }
+    {
+        self.keep(&ended);
         self.watcher.note(ended);
     }
 }

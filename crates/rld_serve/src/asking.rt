@@ -1,15 +1,29 @@
 //! Asks of whoever checks logins himself: each is the Access-Request that its client would have sent, and takes
 //! the way of every datagram, in a turn of a receiver.
 
-ghost use Rattle.std.specs.Prelude.{◌≡◌, false, IfErr, IfOk, OnOk, map};
+ghost use Rattle.std.specs.Prelude.{◌≡◌, ◌++◌, [], false, true, codes, IfErr, IfOk, OnOk, map};
+ghost use Rattle.rld_ask.specs.Form.{fault_text, form_of};
 ghost use Rattle.rld_serve.specs.Answering.{IsUntold, TellsAccepted};
-ghost use Rattle.rld_serve.specs.Asking.{outcome_noted};
+ghost use Rattle.rld_serve.specs.Asked.{IsToldOf, IsUnasked, TellsFirst};
+ghost use Rattle.rld_serve.specs.Asking.{
+  AreAnswered,
+  AreAnswers,
+  answers_told,
+  outcome_noted,
+  replies_after,
+  reply_if,
+  said_in,
+  told_in,
+};
 ghost use Rattle.rld_serve.specs.Following.{IsFaultOf};
+ghost use Rattle.rld_serve.specs.Noting.{noted_if};
+ghost use Rattle.rld_serve.specs.declared.ask_fault.AskFault.TheVariants.{NoMemory};
 
 use crate::accounts::Accounts;
 use crate::ask_fault::AskFault;
 use crate::ask_port::AskPort;
 use crate::ask_watch::{AskWatch, Noted};
+use crate::current::{Current, PresentReceiver};
 use crate::following::fault_after;
 use crate::server::Server;
 use crate::shared_recorder::SharedRecorder;
@@ -19,11 +33,12 @@ use rld_edges::RunFault;
 use rld_log::{FileLog, PacedLog};
 use rld_start::Generations;
 use rld_state::Told;
-use rld_turn::{Receiver, Turn};
+use rld_turn::Turn;
 use rld_watch::{WatchContext, Watcher};
 use rsl_event::Port;
 use rsl_port::{Clock, SystemClock};
 use std::alloc::{AllocError, Global};
+use std::collections::VecDeque;
 use std::net::Net;
 use std::sync::Wait;
 use std::time;
@@ -41,7 +56,7 @@ pub(crate) struct Seat {
 #[derive(Drop)]
 struct Place<'s, 'a, R: Wait + time::Clock> {
     client: [u8; 4],
-    receiver: Receiver,
+    receiver: PresentReceiver,
     recorder: SharedRecorder<'s, PacedLog<'a, FileLog>, R>,
     clock: SystemClock<'s, R>,
     watch: AskWatch<'s, R>,
@@ -145,7 +160,7 @@ where
         };
         Ok(Some(Place {
             client: seat.client,
-            receiver: Receiver::new(self.alloc, Port::Auth)?,
+            receiver: PresentReceiver::new(self.alloc, Port::Auth)?,
             recorder: SharedRecorder::new(self.rt, &self.state),
             clock: SystemClock::new(self.rt, self.plan.start),
             watch: AskWatch::new(self.alloc, watcher)?,
@@ -164,49 +179,89 @@ where
             OnOk result (place.new.recorder.has_ended ≡ false) }
         ensures ends { place.old.recorder.has_ended ≡ false →
             IfErr result (IsFaultOf place.new.recorder.has_ended) }
+        ensures answered { IfOk result (λ answers. AreAnswered
+            (noted_if place.new.watch.is_whole place.new.watch.noted.items) answers.items) }
     {
+        place.watch.forget();
         let current = self.current.read(self.rt);
-        let present = current.present(&self.plan);
-        let Ok(mut port) = AskPort::new(self.alloc, present.config, place.client, asks) else {
+        self.turn_with(&*current, place, asks)
+    }
+
+    /// Takes such a turn with what is present, at a place whose watch keeps nothing yet.
+    fn turn_with(
+        &self,
+        current: &Current,
+        place: &mut Place<'_, 'a, R>,
+        asks: &[AskForm],
+    ) -> Result<Vec<Answer>, RunFault>
+        requires none { place.old.watch.noted.items ≡ [] }
+        requires whole { place.old.watch.is_whole ≡ true }
+        ensures goes_on { place.old.recorder.has_ended ≡ false →
+            OnOk result (place.new.recorder.has_ended ≡ false) }
+        ensures ends { place.old.recorder.has_ended ≡ false →
+            IfErr result (IsFaultOf place.new.recorder.has_ended) }
+        ensures answered { IfOk result (λ answers. AreAnswered
+            (noted_if place.new.watch.is_whole place.new.watch.noted.items) answers.items) }
+    {
+        let Ok(mut port) = AskPort::new(self.alloc, &*current.config, place.client, asks) else {
             return Ok(Vec::new(self.alloc));
         };
         let Turn { ending, .. } = place.receiver.turn(
-            &present,
+            current,
+            self.plan.networks,
             &mut port,
             &mut place.recorder,
             &mut place.clock,
             &mut place.watch,
         );
-        if let Some(fault) = fault_after(ending) {
-            return Err(fault);
-        }
-        match answers_of(self.alloc, place.watch.noted(), port.into_replies()) {
-            Ok(answers) => Ok(answers),
-            Err(_) => Ok(Vec::new(self.alloc)),
+        match fault_after(ending) {
+            Some(fault) => Err(fault),
+            None => Ok(answers_or_none(self.alloc, place.watch.noted(), port.into_replies())),
         }
     }
 
     /// Answers the ask of an operator, by its form.
-    pub(crate) fn ask(&self, form: &[u8]) -> Result<Vec<u8>, AskFault> {
-        let ask = match AskForm::read(self.alloc, form) {
-            Ok(ask) => ask,
-            Err(FormFault::NoMemory) => return Err(AskFault::NoMemory),
-            Err(fault) => {
-                let mut text = Vec::new(self.alloc);
-                fault.push(&mut text)?;
-                return self.told(Reply::Refused(text.as_slice()));
-            }
-        };
-        let place = match self.ask_place() {
-            Ok(Some(place)) => Some(place),
-            Ok(None) => return Err(AskFault::NoAsks),
-            Err(_) => None,
-        };
-        let Some(mut place) = place else {
-            return Err(AskFault::NoMemory);
-        };
+    pub(crate) fn ask(&self, form: &[u8]) -> Result<Vec<u8>, AskFault>
+        ensures told { IfOk result (λ octets. IsToldOf (form_of form.now) octets.items) }
+        ensures fault { IfErr result IsUnasked }
+    {
+        match AskForm::read(self.alloc, form) {
+            Ok(ask) => self.told_at(&mut self.seated()?, ask),
+            Err(FormFault::NoMemory) => Err(AskFault::NoMemory),
+            Err(fault) => self.told_fault(fault),
+        }
+    }
+
+    /// What an operator is told of a form with this fault.
+    fn told_fault(&self, fault: FormFault) -> Result<Vec<u8>, AskFault>
+        ensures told { IfOk result (λ octets. octets.items
+            ≡ codes "error " ++ (fault_text fault ++ codes "\n")) }
+        ensures fault { IfErr result (λ fault. fault ≡ NoMemory) }
+    {
+        let mut text = Vec::new(self.alloc);
+        fault.push(&mut text)?;
+        self.told(Reply::Refused(text.as_slice()))
+    }
+
+    /// A place for the ask of an operator. `NoAsks` comes where the server's file says nothing of asks.
+    fn seated(&self) -> Result<Place<'_, 'a, R>, AskFault>
+        ensures { IfErr result IsUnasked }
+    {
+        match self.ask_place() {
+            Ok(Some(place)) => Ok(place),
+            Ok(None) => Err(AskFault::NoAsks),
+            Err(_) => Err(AskFault::NoMemory),
+        }
+    }
+
+    /// What an operator is told of an ask, which has a turn of its own at this place.
+    fn told_at(&self, place: &mut Place<'_, 'a, R>, ask: AskForm) -> Result<Vec<u8>, AskFault>
+        ensures told { IfOk result (λ octets. TellsFirst
+            (noted_if place.new.watch.is_whole place.new.watch.noted.items) octets.items) }
+        ensures fault { IfErr result IsUnasked }
+    {
         let asks = vec![in self.alloc; ask]?;
-        let Ok(answers) = self.take_turn_of(&mut place, asks.as_slice()) else {
+        let Ok(answers) = self.take_turn_of(place, asks.as_slice()) else {
             return Err(AskFault::NotAccepted(Outcome::Unanswered));
         };
         match answers.first() {
@@ -230,26 +285,48 @@ where
     }
 }
 
+/// The answers to asks whose requests ended so, with the replies to those that were answered; none where memory is
+/// refused.
+fn answers_or_none(alloc: Global, noted: &[Noted], replies: VecDeque<Vec<u8>>) -> Vec<Answer>
+    ensures { AreAnswers noted.now (map (λ reply. reply.items) replies.items) result.items }
+{
+    match answers_of(alloc, noted, replies) {
+        Ok(answers) => answers,
+        Err(_) => Vec::new(alloc),
+    }
+}
+
 /// The answers to asks whose requests ended so, with the replies to those that were answered.
 fn answers_of(
     alloc: Global,
     noted: &[Noted],
-    replies: Vec<Vec<u8>>,
+    replies: VecDeque<Vec<u8>>,
 ) -> Result<Vec<Answer>, AllocError>
-    ensures { IfOk result (λ answers.
-        map (λ answer. answer.outcome) answers.items ≡ map outcome_noted noted.now) }
+    ensures { IfOk result (λ answers. map told_in answers.items
+        ≡ answers_told noted.now (map (λ reply. reply.items) replies.items)) }
 {
     let mut answers = Vec::with_capacity(alloc, noted.len())?;
-    let mut replies = replies.into_iter();
+    let mut replies = replies;
     for one in noted {
-        let reply = match one.said() {
-            Some(_) => replies.next(),
-            None => None,
-        };
-        answers.push(Answer {
-            outcome: Outcome::of(one.said(), one.detail),
-            reply: reply.unwrap_or(Vec::new(alloc)),
-        })?;
+        answers.push(answer_of(alloc, one, &mut replies))?;
     }
     Ok(answers)
+}
+
+/// The answer to an ask whose request ended so: with the next reply, if it was answered.
+fn answer_of(alloc: Global, one: &Noted, replies: &mut VecDeque<Vec<u8>>) -> Answer
+    ensures outcome { result.outcome ≡ outcome_noted one.now }
+    ensures reply { result.reply.items
+        ≡ reply_if (said_in one.now.end) (map (λ reply. reply.items) replies.old.items) }
+    ensures rest { map (λ reply. reply.items) replies.new.items
+        ≡ replies_after (said_in one.now.end) (map (λ reply. reply.items) replies.old.items) }
+{
+    let reply = match one.said() {
+        Some(_) => replies.pop_front(),
+        None => None,
+    };
+    Answer {
+        outcome: one.outcome(),
+        reply: reply.unwrap_or(Vec::new(alloc)),
+    }
 }

@@ -1,13 +1,17 @@
 //! Sessions that their access servers are to disconnect (RFC 5176). One worker sends the requests and takes
 //! the answers, of several at once, so that no other waits for an access server.
 
-ghost use Rattle.std.specs.Prelude.{◌≡◌};
-ghost use Rattle.rld_serve.specs.Disconnecting.{IsOutcomeOf, after_ack};
+ghost use Rattle.std.specs.Prelude.{◌≡◌, IfOk};
+ghost use Rattle.std.specs.Arc.{arc_value};
+ghost use Rattle.rld_control.specs.declared.disconnected.Disconnected.TheVariants.{Unanswered};
+ghost use Rattle.rld_serve.specs.Disconnecting.{IsOutcomeOf, TellsOutcome, TellsOutcomeOf, WentTo, after_ack};
+ghost use Rattle.rld_serve.specs.Hearing.{HasHeardOne};
 
 use crate::accounts::Accounts;
 use crate::ask_fault::AskFault;
+use crate::hearing::Hear;
 use crate::server::Server;
-use rld_control::{DisconnectFault, Disconnected, FreeFault, NamedSession, Stop, disconnect_port};
+use rld_control::{DisconnectFault, Disconnected, FreeFault, NamedSession};
 use rld_disconnect::Answer;
 use rld_edges::{MOST_ORDERS, Operator, Order, RunFault, UnderWay, Unsent};
 use rld_start::Generations;
@@ -50,22 +54,19 @@ where
     }
 
     /// The accounts, and the port that a request for this session goes to, if it may be disconnected.
-    fn orderable(&self, named: &NamedSession) -> Result<(Arc<Config>, u16), AskFault> {
+    fn orderable(&self, named: &NamedSession) -> Result<(Arc<Config>, u16), AskFault>
+        ensures { IfOk result (λ found. WentTo (arc_value found.0) named.now found.1) }
+    {
         let state = self.state.lock(self.rt);
         let config = state.config()?;
-        let stop = Stop::of(self.alloc, &*config, self.plan.boot, named)?;
-        let is_held = match state.recorder().links(self.alloc, stop.account)? {
-            Some(links) => stop.ends_one(links.as_slice()),
-            None => false,
-        };
-        match disconnect_port(&*config, named.client, is_held) {
+        match state.port_for(self.alloc, named)? {
             Ok(port) => Ok((config, port)),
             Err(fault) => Err(AskFault::Disconnect(fault)),
         }
     }
 
     /// Sends an answer to an operator.
-    pub(crate) fn say(&self, stream: &UnixStream, text: &[u8]) {
+    fn say(&self, stream: &UnixStream, text: &[u8]) {
         if let Ok(operator) = Operator::new(self.rt, stream) {
             operator.answer(text);
         }
@@ -77,12 +78,31 @@ where
         self.say(&order.stream, text);
     }
 
-    /// Ends an order with this outcome.
-    fn end(&self, order: &Order, outcome: Disconnected) {
+    /// Has an operator hear an outcome.
+    fn tell_outcome<H: Hear>(&self, operator: &mut H, outcome: Disconnected)
+        ensures { HasHeardOne (TellsOutcome outcome) (H.heard operator.old) (H.heard operator.new) }
+    {
         match outcome.answer(self.alloc) {
-            Ok(text) => self.end_with(order, text.as_slice()),
-            Err(_) => self.end_with(order, AskFault::NoMemory.text().as_bytes()),
+            Ok(text) => operator.hear(text.as_slice()),
+            Err(_) => operator.hear(AskFault::NoMemory.text().as_bytes()),
         }
+    }
+
+    /// Has an operator hear what comes of the session that he named, to whose request its access server
+    /// has answered so.
+    fn tell_answer<H: Hear>(&self, operator: &mut H, named: &NamedSession, answer: Answer)
+        ensures { HasHeardOne (TellsOutcomeOf named.now answer)
+            (H.heard operator.old) (H.heard operator.new) }
+    {
+        let outcome = self.outcome_of(named, answer);
+        self.tell_outcome(operator, outcome);
+    }
+
+    /// Has an operator hear that the access server has not answered.
+    fn tell_silence<H: Hear>(&self, operator: &mut H)
+        ensures { HasHeardOne (TellsOutcome Unanswered) (H.heard operator.old) (H.heard operator.new) }
+    {
+        self.tell_outcome(operator, Disconnected::Unanswered);
     }
 
     /// What comes of a session to whose request its access server has answered so: where the session has ended its
@@ -117,7 +137,10 @@ where
     fn send_due(&self, socket: &UdpSocket, under_way: &mut UnderWay) {
         for _ in 0..MOST_ORDERS {
             match under_way.send_due(self.rt, socket) {
-                Some(order) => self.end(&order, Disconnected::Unanswered),
+                Some(order) => {
+                    self.orders.close_one();
+                    self.tell_silence(&mut Operator::new(self.rt, &order.stream).ok());
+                }
                 None => break,
             }
         }
@@ -160,8 +183,9 @@ where
                 break;
             }
             if let Some((order, answer)) = under_way.take_answer(self.rt, &socket) {
-                let outcome = self.outcome_of(&order.named, answer);
-                self.end(&order, outcome);
+                self.orders.close_one();
+                let mut operator = Operator::new(self.rt, &order.stream).ok();
+                self.tell_answer(&mut operator, &order.named, answer);
             }
         }
     }
@@ -178,13 +202,14 @@ where
 }
 
 /// What comes of a session that its access server has disconnected, by what came of freeing its place.
-fn after_ack(freed: &Result<Freed, AskFault>) -> Disconnected
+fn after_ack(freed: &Result<Freed, FreeFault>) -> Disconnected
     ensures { result ≡ after_ack freed.now }
 {
     match freed {
-        Ok(Freed::Unrecorded) | Err(AskFault::Free(FreeFault::NoMemory)) =>
+        Ok(Freed::Done(_) | Freed::NotHeld(_)) => Disconnected::Done,
+        // another account file has come, with which nothing of it is held
+        Err(FreeFault::UnknownAccount | FreeFault::UnknownClient) => Disconnected::Done,
+        Ok(Freed::Unrecorded) | Err(FreeFault::NoSession | FreeFault::NoMemory) =>
             Disconnected::Unrecorded,
-        // another account file may have come, with which nothing of it is held
-        Ok(Freed::Done(_) | Freed::NotHeld(_)) | Err(_) => Disconnected::Done,
     }
 }

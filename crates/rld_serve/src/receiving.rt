@@ -4,13 +4,14 @@ ghost use Rattle.std.specs.Prelude.{◌≡◌, false, IfErr, OnOk};
 ghost use Rattle.rld_serve.specs.Following.{IsFaultOf};
 
 use crate::accounts::Accounts;
+use crate::current::PresentReceiver;
 use crate::following::fault_after;
 use crate::server::Server;
 use crate::shared_recorder::SharedRecorder;
-use rld_edges::{Bound, Readiness, RunFault, SocketPort, StatusService};
+use rld_edges::{Bound, Readiness, RunFault, SocketPort};
 use rld_log::{FileLog, PacedLog};
 use rld_start::Generations;
-use rld_turn::{Receiver, Turn};
+use rld_turn::Turn;
 use rld_watch::{WatchContext, Watcher};
 use rsl_event::Port;
 use rsl_port::SystemClock;
@@ -21,7 +22,7 @@ use std::time;
 /// What a receiver keeps from turn to turn.
 #[derive(Drop)]
 struct Place<'s, 'a, R: Wait + time::Clock> {
-    receiver: Receiver,
+    receiver: PresentReceiver,
     recorder: SharedRecorder<'s, PacedLog<'a, FileLog>, R>,
     clock: SystemClock<'s, R>,
     watcher: Watcher<'s, R>,
@@ -59,7 +60,7 @@ where
             return Ok(());
         };
         let mut place = Place {
-            receiver: Receiver::new(self.alloc, port)?,
+            receiver: PresentReceiver::new(self.alloc, port)?,
             recorder: self.recorder(),
             clock: SystemClock::new(self.rt, self.plan.start),
             watcher,
@@ -93,13 +94,13 @@ where
             IfErr result (IsFaultOf place.new.recorder.has_ended) }
     {
         let current = self.current.read(self.rt);
-        let present = current.present(&self.plan);
         let status = bound
             .status_server
-            .then_some(StatusService { present, port });
+            .then_some(current.status(self.plan.networks, port));
         let mut datagrams = SocketPort::new(&bound.socket, self.alloc, status);
         let Turn { ending, .. } = place.receiver.turn(
-            &present,
+            &*current,
+            self.plan.networks,
             &mut datagrams,
             &mut place.recorder,
             &mut place.clock,

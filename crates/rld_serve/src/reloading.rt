@@ -1,6 +1,6 @@
 //! Reading the accounts of a running server again.
 
-ghost use Rattle.std.specs.Prelude.{◌≡◌, ℕ, All, IfNone, IfOk, IfSome, length, map};
+ghost use Rattle.std.specs.Prelude.{◌≡◌, ℕ, All, IfNone, IfOk, IfSome, OnErr, OnOk, length, map};
 ghost use Rattle.std.specs.Arc.{arc_value};
 ghost use Rattle.rld_spelling.specs.Tables.{client_row, table_of};
 ghost use Rattle.rld_start.specs.NextHeaders.{generation_named};
@@ -177,13 +177,34 @@ where
         requires counts { IfSome change.counts
             (λ each. length each.items ≡ length self.now.board.places.items) }
     {
+        let mut current = self.current.write(self.rt);
+        self.change_current(&mut *current, change)
+    }
+
+    /// Makes a change of what is present, behind whose lock no receiver takes a turn. With a fault all
+    /// is as it was.
+    fn change_current(
+        &self,
+        current: &mut Current,
+        change: Change,
+    ) -> Result<Changed<'a>, ReloadFault>
+        requires same { arc_value change.config ≡ arc_value change.held }
+        requires table { IfSome change.next
+            (λ next. IsHeaderOf self.now.plan.boot (arc_value change.held) next.header) }
+        requires kept { IfSome change.next
+            (λ next. next.key.generation ≡ generation_named next.header) }
+        requires counts { IfSome change.counts
+            (λ each. length each.items ≡ length self.now.board.places.items) }
+        ensures config { OnOk result (current.new.config ≡ change.config) }
+        ensures header { IfSome change.next (λ next. OnOk result (current.new.header ≡ next.header)) }
+        ensures err { OnErr result (current.new ≡ current.old) }
+    {
         let Change {
             config,
             held,
             next,
             counts,
         } = change;
-        let mut current = self.current.write(self.rt);
         let (changed, present) = self.go_on_by(held, config, next)?;
         if let Some(counts) = counts {
             self.board.renew(self.rt, counts);
@@ -207,15 +228,16 @@ where
         ensures config { IfOk result (λ changed. changed.1.config ≡ other) }
         ensures boot { IfSome next (λ _. IfOk result (λ changed.
             changed.1.boot ≡ self.now.plan.boot)) }
+        ensures header { IfSome next (λ next. IfOk result (λ changed.
+            changed.1.header ≡ next.header)) }
     {
         let mut state = self.state.lock(self.rt);
         let Some(next) = next else {
-            let era = state.header().era;
-            if !state.go_on(config) {
+            let Some(reloaded) = state.go_on(config) else {
                 return Err(ReloadFault::Changed);
-            }
+            };
             let changed = Changed {
-                reloaded: Reloaded::GoesOn(era),
+                reloaded,
                 former: None,
             };
             return Ok((changed, Current::of(&*state, other)));

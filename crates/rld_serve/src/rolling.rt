@@ -2,7 +2,7 @@
 
 ghost use Rattle.std.specs.Prelude.{◌≡◌, IfErr, OnOk};
 ghost use Rattle.rld_edges.specs.declared.fault.RunFault.TheVariants.{Unsynced};
-ghost use Rattle.rld_serve.specs.Following.{HasBegun};
+ghost use Rattle.rld_serve.specs.Following.{HasBegun, timer_after};
 ghost use Rattle.rld_state.specs.Due.{IsDue, just_begun, second_later};
 
 use crate::accounts::Accounts;
@@ -66,18 +66,11 @@ where
         }
         let rolled = self.roll();
         self.tell_if_any(notice_of_roll(&mut rolls.begins, rolled));
-        match rolled {
-            Ok(()) => {
-                rolls.timer = RollTimer::new();
-                self.put_away(rolls, now);
-                Ok(())
-            }
-            Err(RollFault::Ended) => Err(RunFault::Unsynced),
-            Err(_) => {
-                rolls.timer.put_off();
-                Ok(())
-            }
+        rolls.timer = timer_after(rolls.timer, rolled)?;
+        if rolled.is_ok() {
+            self.put_away(rolls, now);
         }
+        Ok(())
     }
 
     /// Begins the next generation. Its log is made before the lock is taken.
@@ -106,6 +99,22 @@ where
     fn tell_if_any(&self, notice: Option<Notice>) {
         if let Some(notice) = notice {
             self.tell(Told::Generations(notice));
+        }
+    }
+}
+
+/// The timer once the next generation was due and was begun, or could not be. `Unsynced` comes where
+/// nothing more can be recorded.
+fn timer_after(due: RollTimer, rolled: Result<(), RollFault>) -> Result<RollTimer, RunFault>
+    ensures { result ≡ timer_after due rolled }
+{
+    match rolled {
+        Ok(()) => Ok(RollTimer::new()),
+        Err(RollFault::Ended) => Err(RunFault::Unsynced),
+        Err(_) => {
+            let mut timer = due;
+            timer.put_off();
+            Ok(timer)
         }
     }
 }

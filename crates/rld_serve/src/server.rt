@@ -1,6 +1,7 @@
-ghost use Rattle.std.specs.Prelude.{◌≡◌, IfErr, IfOk, IfSome, OnOk, false, length, map, true};
+ghost use Rattle.std.specs.Prelude.{◌≡◌, Err, IfErr, IfOk, IfSome, IsTrue, OnOk, false, length, map, true};
 ghost use Rattle.std.specs.List.{filter_map};
 ghost use Rattle.rld_books.specs.Saved.{IsServerOf};
+ghost use Rattle.rld_edges.specs.Fault.{fault_in, gravest};
 ghost use Rattle.rld_edges.specs.Jobs.{port_of};
 ghost use Rattle.rld_edges.specs.declared.fault.RunFault.TheVariants.{Unsynced};
 ghost use Rattle.rld_start.specs.NextHeaders.{generation_named};
@@ -272,10 +273,19 @@ where
         jobs.len(),
         &|i| server.work(jobs.get(i), i, pages, asks),
     )?;
-    if server.state.lock(server.rt).has_ended() {
+    let has_ended = server.state.lock(server.rt).has_ended();
+    outcome_after(has_ended, ended.as_slice())
+}
+
+/// The outcome of workers that ended so, where nothing more can be recorded or it can.
+fn outcome_after(has_ended: bool, ended: &[Result<(), RunFault>]) -> Result<(), RunFault>
+    ensures ended { IsTrue has_ended → result ≡ Err Unsynced }
+    ensures open { has_ended ≡ false → fault_in result ≡ gravest ended.now }
+{
+    if has_ended {
         return Err(RunFault::Unsynced);
     }
-    outcome_of(ended.as_slice())
+    outcome_of(ended)
 }
 
 impl<'a, G, A, R> Server<'a, G, A, R>

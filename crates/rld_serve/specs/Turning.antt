@@ -1,0 +1,26 @@
+-- Turns with what is present.
+use Rattle.std.specs.Prelude.{◌≡◌, ℕ, List, None, Option, IfSome}
+use Rattle.rld_networks.specs.declared.network.Network.{Network}
+use Rattle.rld_store.specs.Recorded.{RecordedSeen}
+use Rattle.rld_turn.specs.Present.{ServiceSeen}
+use Rattle.rld_turn.specs.Turned.{IsDecidedBy, State}
+use Rattle.rld_turn.specs.declared.ends.Ends.{Ends}
+use Rattle.rsl_accounts.specs.Configuration.{Configuration, client_number}
+use Rattle.rsl_event.specs.declared.meaning.Port.{Port}
+
+-- These accounts, networks and boot number are served. Peers that stand for no client have some address that no
+-- client has.
+pub record IsServiceOf (config : Configuration) (networks : List Network) (boot : ℕ) (service : ServiceSeen)
+    : Type 0 where
+  pub config_is : service.config ≡ config
+  pub networks_are : service.networks ≡ networks
+  pub boot_is : service.boot ≡ boot
+  pub nobody_is : client_number config service.nobody ≡ None
+
+-- a turn with these accounts, networks and boot number, which is recorded in this era or not at all
+pub record HasTurnedWith (config : Configuration) (networks : List Network) (boot era : ℕ) (port : Port)
+    (Tells : Type 0) (ends : Ends) (recorded : Option RecordedSeen) (old new : State) : Type 0 where
+  pub service : ServiceSeen
+  pub served : IsServiceOf config networks boot service
+  pub decided : IsDecidedBy service port Tells ends recorded old new
+  pub of_era : IfSome recorded (λ one. one.era ≡ era)
