@@ -1,3 +1,7 @@
+ghost use Rattle.std.specs.Prelude.{◌≡◌, IfNone, IfOk, IfSome, None};
+ghost use Rattle.std.specs.Net.Addr.{ipv4_octets};
+ghost use Rattle.std.specs.Net.Socket.{v4_ip, v4_port};
+
 use crate::VERSION;
 use crate::accounts::ServerAccounts;
 use crate::asks::asks_of;
@@ -6,7 +10,8 @@ use crate::pace::pace_of;
 use crate::proof::proof_in;
 use crate::sink::sink_of;
 use rld_commands::{AccountFile, Fault, Wrong, accounts_for, bad_file, server_file};
-use rld_config::{ControlSocket, Key, NewHistory, Part, Paths, ServerFault};
+use rld_config::{ControlSocket, Key, NewHistory, Part, Paths, ServerFault, ServerFile};
+use rld_folder::Folder;
 use rld_log::{Pacing, Ticks};
 use rld_look::Build;
 use rld_serve::{Access, Control, Plan, RunFault, Sockets, serve};
@@ -91,12 +96,7 @@ where
         key,
         ..
     } = started;
-    let generations = FolderGenerations::new(
-        files,
-        folder,
-        server.archive,
-        server.archive_megabytes,
-    );
+    let generations = generations_of(files, folder, &server);
     let accounts = ServerAccounts {
         files,
         name,
@@ -154,6 +154,19 @@ fn greeting_of(alloc: Global, found: &Found, config: &Config) -> Result<String, 
     Ok(text)
 }
 
+/// The logs of a folder, whose archive is kept as the server's file says.
+fn generations_of<'a, F: Files<File = File>>(
+    files: &'a F,
+    folder: Folder,
+    server: &ServerFile,
+) -> FolderGenerations<'a, F>
+    ensures folder { result.folder ≡ folder }
+    ensures archive { result.archive ≡ server.now.archive }
+    ensures megabytes { result.megabytes ≡ server.now.archive_megabytes }
+{
+    FolderGenerations::new(files, folder, server.archive, server.archive_megabytes)
+}
+
 /// Who may use the control socket, by the server's file of this name. The group's fault comes if
 /// the system knows no group of its name.
 fn access_of<F: Files>(
@@ -161,21 +174,33 @@ fn access_of<F: Files>(
     alloc: Global,
     name: &str,
     control: &ControlSocket,
-) -> Result<Access, Fault> {
-    let group = match &control.group {
-        None => None,
-        Some(group) => match group_number(files, alloc, group.as_str())? {
-            Some(number) => Some(number),
-            None => {
-                let fault = ServerFault::BadValue(Part::Control, Key::Group);
-                return bad_file(alloc, name, None, Wrong::Server(fault));
-            }
-        },
-    };
+) -> Result<Access, Fault>
+    ensures { IfOk result (λ access. access.mode ≡ control.now.mode) }
+{
+    let group = group_of(files, alloc, name, control)?;
     Ok(Access {
         mode: u32::from(control.mode),
         group,
     })
+}
+
+/// The number of the control socket's group, if its file has one.
+fn group_of<F: Files>(
+    files: &F,
+    alloc: Global,
+    name: &str,
+    control: &ControlSocket,
+) -> Result<Option<u32>, Fault> {
+    let Some(group) = &control.group else {
+        return Ok(None);
+    };
+    match group_number(files, alloc, group.as_str())? {
+        Some(number) => Ok(Some(number)),
+        None => {
+            let fault = ServerFault::BadValue(Part::Control, Key::Group);
+            bad_file(alloc, name, None, Wrong::Server(fault))
+        }
+    }
 }
 
 /// The page of the server, if its file has one. `Unbound` comes if its address and port cannot be
@@ -185,7 +210,13 @@ fn web_of<N: Net<Listener = TcpListener, Stream = TcpStream>>(
     source: &HostRuntime,
     alloc: Global,
     web: Option<rld_config::Web>,
-) -> Result<Option<Web>, Fault> {
+) -> Result<Option<Web>, Fault>
+    ensures none { IfNone web (IfOk result (λ page. page ≡ None)) }
+    ensures address { IfSome web (λ wanted. IfOk result (λ page. IfSome page (λ page.
+        ipv4_octets (v4_ip page.place) ≡ wanted.address))) }
+    ensures port { IfSome web (λ wanted. IfOk result (λ page. IfSome page (λ page.
+        v4_port page.place ≡ wanted.port))) }
+{
     let Some(web) = web else {
         return Ok(None);
     };
