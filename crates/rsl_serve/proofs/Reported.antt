@@ -5,6 +5,7 @@ use Rattle.std.proofs.lemmas.Option.{slice_get-get_or, slice_get_cases}
 use Rattle.rsl_accounts.specs.Configuration.{Configuration}
 use Rattle.rsl_accounts.specs.Limits.{IsConfiguration}
 use Rattle.rsl_accounts.specs.declared.entry.Entry.{Entry}
+use Rattle.rsl_event.specs.declared.meaning.Port.TheVariants.{Auth, Acct}
 use Rattle.rsl_service.specs.declared.counts.Counts.{Counts}
 use Rattle.rsl_record.specs.Output.{output_octets}
 use Rattle.rsl_record.specs.Table.{table}
@@ -67,22 +68,22 @@ has_closed config closed auth acct ticks passes given are none of opened settled
 
 -- what was closed and printed was served
 pub has_served : (config : Configuration) (turns : ℕ) (auth_pass acct_pass ticks_pass : List Receipt)
-    (result : Result Served ServeFault) → IfOk result (λ served. IsReceived turns served.auth)
-    → IfOk result (λ served. IsReceived turns served.acct)
+    (result : Result Served ServeFault) → IfOk result (λ served. IsReceived Auth turns served.auth)
+    → IfOk result (λ served. IsReceived Acct turns served.acct)
     → IfOk result (λ served. served.closed.config ≡ config)
     → IfOk result (λ served. HasClosed served.closed auth_pass acct_pass ticks_pass)
-    → IfOk result (λ served. IsPrinted config served.auth.counts served.acct.counts (output_octets served.output))
+    → IfOk result (λ served. IsPrinted config served.auth.taken.counts served.acct.taken.counts (output_octets served.output))
     → IfOk result (λ served. HasServed served.closed turns (output_octets served.output))
 has_served config turns auth_pass acct_pass ticks_pass (Ok served) first second of closed printed = record {
-  auth = served.auth.counts;
-  acct = served.acct.counts;
+  auth = served.auth.taken.counts;
+  acct = served.acct.taken.counts;
   auth_pass = auth_pass;
   acct_pass = acct_pass;
   ticks_pass = ticks_pass;
   auth_received = first.taken;
   acct_received = second.taken;
   passes = closed;
-  printed = subst (λ (config : Configuration). IsPrinted config served.auth.counts served.acct.counts (output_octets served.output)) (sym of) printed;
+  printed = subst (λ (config : Configuration). IsPrinted config served.auth.taken.counts served.acct.taken.counts (output_octets served.output)) (sym of) printed;
 }
 has_served config turns auth_pass acct_pass ticks_pass (Err fault) first second of closed printed = tt
 

@@ -2,6 +2,7 @@
 use Rattle.std.specs.Prelude.{◌≡◌, ℕ, List, [], ◌∷◌, ◌++◌, codes}
 use Rattle.rsl_accounts.specs.Configuration.{Configuration}
 use Rattle.rsl_accounts.specs.Limits.{IsConfiguration}
+use Rattle.rsl_event.specs.declared.meaning.Port.{Port}
 use Rattle.rsl_port.specs.Told.{no_numbers}
 use Rattle.rsl_service.specs.Counted.{AddsUp, AreCounted}
 use Rattle.rsl_service.specs.declared.counts.Counts.{Counts}
@@ -18,11 +19,12 @@ pub record HasReceived (turns : ℕ) (counts : Counts) : Type 0 where
   pub all : counts.turns ≡ turns
   pub sum : AddsUp counts
 
--- a receiver has taken its turns at its port: since it was bound, the port was read once a turn, and
--- so many answers were sent as are counted
-pub record IsReceived (turns : ℕ) (received : Received) : Type 0 where
-  pub taken : HasReceived turns received.counts
-  pub calls : AreCounted 0 received.counts no_numbers received.port.numbers
+-- a receiver of a port of the service has taken its turns at its socket: since it was bound, the
+-- socket was read once a turn, and so many answers were sent as are counted
+pub record IsReceived (port : Port) (turns : ℕ) (received : Received) : Type 0 where
+  pub of_port : received.taken.port ≡ port
+  pub taken : HasReceived turns received.taken.counts
+  pub calls : AreCounted 0 received.taken.counts no_numbers received.datagrams.numbers
 
 -- a report with a row for each account in file order, with its places and no more held
 pub record HasReported (config : Configuration) (report : List ℕ) : Type 0 where

@@ -17,6 +17,7 @@ mod output;
 mod plan;
 mod server;
 mod shutdown;
+mod turns;
 mod udp_port;
 mod workers;
 

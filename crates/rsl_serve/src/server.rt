@@ -1,5 +1,6 @@
 ghost use Rattle.std.specs.Prelude.{◌≡◌, ◌≢◌, ◌∷◌, ℕ, List, [], IfErr, IfOk};
 ghost use Rattle.std.specs.Io.KnownBytes.{Appends, Keeps};
+ghost use Rattle.rsl_event.specs.declared.meaning.Port.TheVariants as ports;
 ghost use Rattle.rsl_service.specs.Told.{no_numbers};
 ghost use Rattle.rsl_record.specs.Output.{output_octets};
 ghost use Rattle.rsl_serve.specs.Served.{HasClosed, HasReported, HasServed, IsPrinted, IsReceived};
@@ -171,10 +172,11 @@ where
     requires auth { sockets.auth ≡ no_numbers }
     requires acct { sockets.acct ≡ no_numbers }
     ensures config { IfOk result (λ served. served.closed.config ≡ config) }
-    ensures auth { IfOk result (λ served. IsReceived run_time.turns served.auth) }
-    ensures acct { IfOk result (λ served. IsReceived run_time.turns served.acct) }
+    ensures boot { IfOk result (λ served. served.closed.boot ≡ run_time.boot) }
+    ensures auth { IfOk result (λ served. IsReceived ports.Auth run_time.turns served.auth) }
+    ensures acct { IfOk result (λ served. IsReceived ports.Acct run_time.turns served.acct) }
     ensures printed { IfOk result (λ served. IsPrinted config
-        served.auth.counts served.acct.counts (output_octets served.output)) }
+        served.auth.taken.counts served.acct.taken.counts (output_octets served.output)) }
     ensures served { IfOk result (λ served.
         HasServed served.closed run_time.turns (output_octets served.output)) }
 {
@@ -229,21 +231,22 @@ impl<L0: Tally, L1: Tally, L2: Tally, L3: Tally, R: Wait> Server<'_, L0, L1, L2,
 
     /// Takes the report of the service, and closes it with these passes.
     fn close(self, finished: Finished<L0, L1, L2, L3>) -> Result<Served, ServeFault>
-        requires auth { IsReceived self.run_time.turns finished.auth }
-        requires acct { IsReceived self.run_time.turns finished.acct }
+        requires auth { IsReceived ports.Auth self.run_time.turns finished.auth }
+        requires acct { IsReceived ports.Acct self.run_time.turns finished.acct }
         ensures config { IfOk result (λ served.
             served.closed.config ≡ self.entry.service.config) }
+        ensures boot { IfOk result (λ served. served.closed.boot ≡ self.entry.service.boot) }
         ensures closed { IfOk result (λ served. HasClosed served.closed
             finished.passes.auth.receipts finished.passes.acct.receipts finished.passes.ticks.receipts) }
         ensures auth { IfOk result (λ served.
-            IsReceived self.entry.run_time.turns served.auth) }
+            IsReceived ports.Auth self.entry.run_time.turns served.auth) }
         ensures acct { IfOk result (λ served.
-            IsReceived self.entry.run_time.turns served.acct) }
+            IsReceived ports.Acct self.entry.run_time.turns served.acct) }
         ensures printed { IfOk result (λ served. IsPrinted self.entry.service.config
-            served.auth.counts served.acct.counts (output_octets served.output)) }
+            served.auth.taken.counts served.acct.taken.counts (output_octets served.output)) }
     {
         let Finished { auth, acct, passes } = finished;
-        let output = self.output(&auth.counts, &acct.counts)?;
+        let output = self.output(&auth.taken.counts, &acct.taken.counts)?;
         let Server {
             rt: _,
             alloc,
@@ -269,6 +272,7 @@ fn close_service<L0: Tally, L1: Tally, L2: Tally, L3: Tally>(
     passes: Passes<L0, L1, L2, L3>,
 ) -> Result<Closed, ServeFault>
     ensures config { IfOk result (λ closed. closed.config ≡ service.config) }
+    ensures boot { IfOk result (λ closed. closed.boot ≡ service.boot) }
     ensures closed { IfOk result (λ closed. HasClosed closed
         passes.auth.receipts passes.acct.receipts passes.ticks.receipts) }
 {

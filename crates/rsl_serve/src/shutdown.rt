@@ -1,8 +1,6 @@
 //! How the workers of a server end: the state that they share, and a port that fails when the other
 //! does.
 
-use crate::UdpPort;
-use crate::udp_port::ClosedPort;
 use rsl_event::Source;
 use rsl_service::{DatagramPort, PortFault};
 use std::sync::atomic::{AtomicBool, AtomicU64, Ordering};
@@ -85,35 +83,58 @@ impl Shutdown {
     }
 }
 
+/// A port whose `receive` can be made to fail, for a port that is to give no more.
+pub(crate) trait FailingPort: DatagramPort {
+    ghost use Rattle.std.specs.Prelude.{◌≡◌, false, is_err, true};
+    ghost use Rattle.rsl_port.specs.Told.{CanReceive, after_receive};
+
+    /// A `receive` that is counted and fails, without a wait. The port tells no more.
+    fn fail(&mut self) -> Result<Option<(usize, Source)>, PortFault>
+        requires { CanReceive 1 (Self.numbers self.old) }
+        ensures failed { is_err result ≡ true }
+        ensures counted { Self.numbers self.new ≡ after_receive result (Self.numbers self.old) }
+        ensures silent { Self.tells self.new ≡ false };
+}
+
 /// One of the two ports of a server. It fails once the other's receiver has failed, so that no
 /// receiver goes on alone.
+///
+/// A contract sees what the port inside tells, and the counts of its calls.
 #[derive(Drop)]
-pub(crate) struct PairedPort<'a> {
-    port: UdpPort,
+pub(crate) struct PairedPort<'a, P> {
+    port: P,
     shutdown: &'a Shutdown,
 }
 
-impl<'a> PairedPort<'a> {
+impl<'a, P: FailingPort> PairedPort<'a, P> {
     ghost use Rattle.std.specs.Prelude.{◌≡◌};
 
     /// The port, with the state that the workers share.
-    pub(crate) fn new(port: UdpPort, shutdown: &'a Shutdown) -> PairedPort<'a>
+    pub(crate) fn new(port: P, shutdown: &'a Shutdown) -> PairedPort<'a, P>
         ensures { result.port ≡ port }
     {
         PairedPort { port, shutdown }
     }
 
-    /// Closes the port.
-    pub(crate) fn close(self) -> ClosedPort
-        ensures { result.numbers ≡ self.entry.port }
+    /// The port inside.
+    pub(crate) fn into_port(self) -> P
+        ensures { result ≡ self.entry.port }
     {
         let PairedPort { port, shutdown: _ } = self;
-        port.close()
+        port
     }
 }
 
-impl DatagramPort for PairedPort<'_> {
-    ghost numbers = { λ paired. paired.port };
+impl<P: FailingPort> DatagramPort for PairedPort<'_, P> {
+    ghost numbers = { λ paired. P.numbers paired.port };
+
+    ghost tells = { λ paired. P.tells paired.port };
+
+    ghost taken = { λ paired. P.taken paired.port };
+
+    ghost sent = { λ paired. P.sent paired.port };
+
+    ghost room = { λ paired. P.room paired.port };
 
     fn receive(&mut self, buffer: &mut [u8]) -> Result<Option<(usize, Source)>, PortFault> {
         if self.shutdown.has_failed() {

@@ -1,6 +1,7 @@
-ghost use Rattle.std.specs.Prelude.{◌≡◌, ◌≤◌, IfOk, IfSome, is_err, length, true};
-ghost use Rattle.rsl_port.specs.Told.{CanReceive, after_receive, no_numbers};
+ghost use Rattle.std.specs.Prelude.{◌≡◌, ◌≤◌, IfOk, IfSome, length};
+ghost use Rattle.rsl_port.specs.Told.{no_numbers};
 
+use crate::shutdown::FailingPort;
 use rsl_event::Source;
 use rsl_port::{DatagramPort, Numbers, PortFault, reception, socket_addr};
 use std::io;
@@ -52,17 +53,6 @@ impl UdpPort {
         })
     }
 
-    /// A `receive` that fails without reading the socket, for a port that is to give no more.
-    pub fn fail(&mut self) -> Result<Option<(usize, Source)>, PortFault>
-        requires { CanReceive 1 self.old }
-        ensures failed { is_err result ≡ true }
-        ensures counted { self.new ≡ after_receive result self.old }
-    {
-        let failed = Err(PortFault);
-        self.numbers.note_receive(&failed);
-        failed
-    }
-
     /// Closes the socket.
     pub(crate) fn close(self) -> ClosedPort
         ensures { result.numbers ≡ self }
@@ -80,6 +70,14 @@ impl UdpPort {
     {
         let room = buffer.len();
         reception(self.socket.recv_from(buffer), room)
+    }
+}
+
+impl FailingPort for UdpPort {
+    fn fail(&mut self) -> Result<Option<(usize, Source)>, PortFault> {
+        let failed = Err(PortFault);
+        self.numbers.note_receive(&failed);
+        failed
     }
 }
 

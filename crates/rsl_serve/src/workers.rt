@@ -5,10 +5,11 @@ ghost use Rattle.rsl_serve.specs.Served.{IsReceived};
 use crate::clock::EverySecond;
 use crate::server::{Finished, Passes, Server, Sockets};
 use crate::shutdown::PairedPort;
+use crate::turns::Taken;
 use crate::udp_port::ClosedPort;
 use crate::{ServeFault, SystemClock, UdpPort};
 use rsl_event::Port;
-use rsl_service::{Counts, Pass, Tally, expire_loop, receive};
+use rsl_service::{Pass, Tally, expire_loop};
 use std::sync::Wait;
 use std::thread::{self, Threads};
 use std::time;
@@ -24,10 +25,10 @@ struct Receiver<L0: Tally, L1: Tally, L2: Tally, L3: Tally> {
 /// What a receiver did.
 #[derive(Drop)]
 pub(crate) struct Received {
-    /// Its counts.
-    pub counts: Counts,
-    /// Its port, which was called as the counts say.
-    pub port: ClosedPort,
+    /// What it did in its turns.
+    pub taken: Taken,
+    /// Its socket, which was called as the counts of its turns say.
+    pub datagrams: ClosedPort,
 }
 
 /// The result of a receiver: what it did, and its pass.
@@ -52,8 +53,10 @@ where
     ) -> Result<Finished<L0, L1, L2, L3>, ServeFault>
         requires auth { sockets.auth ≡ no_numbers }
         requires acct { sockets.acct ≡ no_numbers }
-        ensures auth { IfOk result (λ finished. IsReceived self.now.run_time.turns finished.auth) }
-        ensures acct { IfOk result (λ finished. IsReceived self.now.run_time.turns finished.acct) }
+        ensures auth { IfOk result (λ finished.
+            IsReceived Port.Auth self.now.run_time.turns finished.auth) }
+        ensures acct { IfOk result (λ finished.
+            IsReceived Port.Acct self.now.run_time.turns finished.acct) }
     {
         let auth = Receiver {
             port: Port::Auth,
@@ -77,8 +80,10 @@ where
     ) -> Result<Finished<L0, L1, L2, L3>, ServeFault>
         requires auth { auth.datagrams ≡ no_numbers }
         requires acct { acct.datagrams ≡ no_numbers }
-        ensures auth { IfOk result (λ finished. IsReceived self.now.run_time.turns finished.auth) }
-        ensures acct { IfOk result (λ finished. IsReceived self.now.run_time.turns finished.acct) }
+        ensures auth { IfOk result (λ finished.
+            IsReceived auth.port self.now.run_time.turns finished.auth) }
+        ensures acct { IfOk result (λ finished.
+            IsReceived acct.port self.now.run_time.turns finished.acct) }
     {
         let server = self;
         // If no thread can be made, the first runs last: the worker that makes ticks, which then
@@ -89,8 +94,10 @@ where
             move || -> Outcomes<L0, L1, L2, L3>
                 requires auth { auth.datagrams ≡ no_numbers }
                 requires acct { acct.datagrams ≡ no_numbers }
-                ensures auth { IfOk result.0 (λ received. IsReceived server.entry.now.run_time.turns received.0) }
-                ensures acct { IfOk result.1 (λ received. IsReceived server.entry.now.run_time.turns received.0) }
+                ensures auth { IfOk result.0 (λ received.
+                    IsReceived auth.port server.entry.now.run_time.turns received.0) }
+                ensures acct { IfOk result.1 (λ received.
+                    IsReceived acct.port server.entry.now.run_time.turns received.0) }
             { server.run_receivers(auth, acct) },
         );
         // The other receiver fails too, but only because this one was refused memory.
@@ -118,19 +125,23 @@ where
     ) -> Outcomes<L0, L1, L2, L3>
         requires auth { auth.datagrams ≡ no_numbers }
         requires acct { acct.datagrams ≡ no_numbers }
-        ensures auth { IfOk result.0 (λ received. IsReceived self.now.run_time.turns received.0) }
-        ensures acct { IfOk result.1 (λ received. IsReceived self.now.run_time.turns received.0) }
+        ensures auth { IfOk result.0 (λ received.
+            IsReceived auth.port self.now.run_time.turns received.0) }
+        ensures acct { IfOk result.1 (λ received.
+            IsReceived acct.port self.now.run_time.turns received.0) }
     {
         let server = self;
         thread::join(
             self.rt,
             move || -> Outcome<L0, L1, L2, L3>
                 requires { auth.datagrams ≡ no_numbers }
-                ensures { IfOk result (λ received. IsReceived server.entry.now.run_time.turns received.0) }
+                ensures { IfOk result (λ received.
+                    IsReceived auth.port server.entry.now.run_time.turns received.0) }
             { server.run_receiver(auth) },
             move || -> Outcome<L0, L1, L2, L3>
                 requires { acct.datagrams ≡ no_numbers }
-                ensures { IfOk result (λ received. IsReceived server.entry.now.run_time.turns received.0) }
+                ensures { IfOk result (λ received.
+                    IsReceived acct.port server.entry.now.run_time.turns received.0) }
             { server.run_receiver(acct) },
         )
     }
@@ -138,7 +149,8 @@ where
     /// Runs a receiver. It also fails if the other one has failed, or a worker has not started.
     fn run_receiver(&self, receiver: Receiver<L0, L1, L2, L3>) -> Outcome<L0, L1, L2, L3>
         requires { receiver.datagrams ≡ no_numbers }
-        ensures { IfOk result (λ received. IsReceived self.now.run_time.turns received.0) }
+        ensures { IfOk result (λ received.
+            IsReceived receiver.port self.now.run_time.turns received.0) }
     {
         let Receiver {
             port,
@@ -156,7 +168,7 @@ where
         }
     }
 
-    /// Lets a receiver take its turns, and then notes its end for the other workers.
+    /// Lets a receiver take its turns at its socket, which is closed after them.
     fn receive_turns(
         &self,
         port: Port,
@@ -164,28 +176,13 @@ where
         pass: &mut Pass<L0, L1, L2, L3>,
     ) -> Result<Received, ServeFault>
         requires { datagrams ≡ no_numbers }
-        ensures { IfOk result (λ received. IsReceived self.now.run_time.turns received) }
+        ensures { IfOk result (λ received. IsReceived port self.now.run_time.turns received) }
     {
         let mut datagrams = PairedPort::new(datagrams, &self.shutdown);
-        let mut clock = SystemClock::new(self.rt, self.run_time.boot);
-        let result = receive(
-            self.rt,
-            self.alloc,
-            &self.service,
-            pass,
-            port,
-            &mut datagrams,
-            &mut clock,
-            self.run_time.turns,
-        );
-        match &result {
-            Ok(_) => self.shutdown.note_end(),
-            Err(_) => self.shutdown.note_failure(),
-        }
-        let counts = result?;
+        let taken = self.take_turns(port, &mut datagrams, pass, self.run_time.turns)?;
         Ok(Received {
-            counts,
-            port: datagrams.close(),
+            taken,
+            datagrams: datagrams.into_port().close(),
         })
     }
 

@@ -93,10 +93,11 @@ pub record IsEndOf (config : Configuration) (ended : EndedSeen) : Type 0 where
   pub most : ended.opened ≤ 1024
   pub ends : HaveEnds ended.config ended.present
 
--- what a contract sees of a closed service: its configuration, the number of passes that it opened,
--- and the segments of all shards
+-- what a contract sees of a closed service: its configuration and boot number, the number of passes
+-- that it opened, and the segments of all shards
 pub record ClosedSeen : Type 0 where
   pub config : Configuration
+  pub boot : ℕ
   pub opened : ℕ
   pub segments : List Segment
 

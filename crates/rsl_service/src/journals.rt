@@ -131,10 +131,12 @@ fn cut_under_lock<L: Tally, R: Wait>(
 
 /// A service that was closed. Only `Service::close` makes one.
 ///
-/// A contract sees the configuration, how many passes were opened, and the segments.
+/// A contract sees the configuration, the boot number, how many passes were opened, and the
+/// segments.
 #[derive(Drop)]
 pub struct Closed {
     config: Config,
+    boot: u64,
     opened: u64,
     segments: Vec<Segment>,
 }
@@ -146,6 +148,7 @@ impl Model for Closed {
 
     ghost view = { λ closed. record {
       config = closed.config;
+      boot = closed.boot;
       opened = closed.opened;
       segments = closed.segments.items;
     } };
@@ -182,13 +185,15 @@ impl<L0: Tally, L1: Tally, L2: Tally, L3: Tally, G: Gate + Drop> Service<L0, L1,
         segments: Vec<Segment>,
     ) -> Result<Closed, CloseFault>
         ensures config { IfOk result (λ closed. closed.config ≡ self.config) }
+        ensures boot { IfOk result (λ closed. closed.boot ≡ self.boot) }
         ensures opened { IfOk result (λ closed. closed.opened ≡ length passes.items) }
         ensures closed { IfOk result (λ closed.
             IsClosed self.config (receipts_of passes.items) segments.items closed.segments) }
         ensures err { IfErr result (IsUnsettled self.config (receipts_of passes.items) segments.items) }
     {
+        let boot = self.boot;
         let ended = self.end(alloc)?;
-        ended.close(alloc, passes, segments)
+        ended.close(alloc, boot, passes, segments)
     }
 
     /// Takes the shards and the passes' book out of their locks, and ends the journals. It fails
@@ -312,14 +317,17 @@ impl<L0: Tally, L1: Tally, L2: Tally, L3: Tally> Model for EndedService<L0, L1, 
 }
 
 impl<L0: Tally, L1: Tally, L2: Tally, L3: Tally> EndedService<L0, L1, L2, L3> {
-    /// Settles the record, and audits each ledger against the shares of all passes.
+    /// Settles the record, and audits each ledger against the shares of all passes. The boot number
+    /// is that of the service.
     fn close(
         self,
         alloc: Global,
+        boot: u64,
         passes: Vec<Pass<L0, L1, L2, L3>>,
         segments: Vec<Segment>,
     ) -> Result<Closed, CloseFault>
         ensures config { IfOk result (λ closed. closed.config ≡ self.config) }
+        ensures boot { IfOk result (λ closed. closed.boot ≡ boot) }
         ensures opened { IfOk result (λ closed. closed.opened ≡ length passes.items) }
         ensures closed { IfOk result (λ closed.
             IsClosedBy self (receipts_of passes.items) segments.items closed.segments) }
@@ -345,6 +353,7 @@ impl<L0: Tally, L1: Tally, L2: Tally, L3: Tally> EndedService<L0, L1, L2, L3> {
         let segments = by_shard(segments, present)?;
         Ok(Closed {
             config,
+            boot,
             opened,
             segments,
         })

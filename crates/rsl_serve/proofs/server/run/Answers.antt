@@ -1,4 +1,4 @@
-use Rattle.std.proofs.Common.{◌≡◌, IfOk, ap, subst}
+use Rattle.std.proofs.Common.{◌≡◌, ℕ, IfOk, ap, subst}
 use Rattle.rsl_accounts.specs.Configuration.{Configuration}
 use Rattle.rsl_service.specs.Service.{ServiceSeen}
 use Rattle.rsl_serve.proofs.Reported.{has_served}
@@ -8,6 +8,11 @@ pub returns-clause-config : goal.returns-clause-config
 returns-clause-config g c =
     subst (λ (config : Configuration). IfOk c.close.result (λ served. served.closed.config ≡ config))
     (ap (λ (service : ServiceSeen). service.config) c.in_ok-service.ensures) c.close.ensures.config
+
+pub returns-clause-boot : goal.returns-clause-boot
+returns-clause-boot g c =
+    subst (λ (boot : ℕ). IfOk c.close.result (λ served. served.closed.boot ≡ boot))
+    (ap (λ (service : ServiceSeen). service.boot) c.in_ok-service.ensures) c.close.ensures.boot
 
 pub returns-clause-served : goal.returns-clause-served
 returns-clause-served g c =
