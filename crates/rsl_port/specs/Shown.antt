@@ -1,8 +1,8 @@
--- The moments that a clock has shown, if it reports them.
-use Rattle.std.specs.Prelude.{◌≡◌, ℕ, ⊤, List, ◌++◌, Option, Some, None}
+-- What a clock and a pause have shown, if they report it.
+use Rattle.std.specs.Prelude.{◌≡◌, ⊤, List, ◌++◌, Option, Some, None}
 
--- a clock has shown these further moments, if it reports what it shows
-abbrev pub HasShown : (moments : List ℕ) → (old new : Option (List ℕ)) → Type 0
-HasShown moments old None = ⊤
-HasShown moments None (Some after) = ⊥
-HasShown moments (Some before) (Some after) = after ≡ before ++ moments
+-- these further values were shown, by a clock or a pause that reports what it shows
+abbrev pub HasShown : {A : Type 0} → (values : List A) → (old new : Option (List A)) → Type 0
+HasShown values old None = ⊤
+HasShown values None (Some after) = ⊥
+HasShown values (Some before) (Some after) = after ≡ before ++ values

@@ -17,13 +17,14 @@ pub trait Clock {
 
 /// The pause of a worker between two ticks.
 ///
-/// A pause in memory also reports to contracts what it answered last.
+/// A pause in memory also reports to contracts what it answered, in order. Any other reports nothing.
 pub trait Pause {
-    ghost use Rattle.std.specs.Prelude.{◌≡◌, Bool, Option, None, IfSome};
+    ghost use Rattle.std.specs.Prelude.{Bool, List, [], ◌∷◌, Option, None};
+    ghost use Rattle.rsl_port.specs.Shown.{HasShown};
 
-    ghost said: { Self → Option Bool } = { λ _. None };
+    ghost said: { Self → Option (List Bool) } = { λ _. None };
 
     /// Waits until the next turn is due. Answers false if there is to be none.
     fn pause(&mut self) -> bool
-        ensures said { IfSome (said self.new) (λ said. said ≡ result) };
+        ensures said { HasShown (result ∷ []) (said self.old) (said self.new) };
 }

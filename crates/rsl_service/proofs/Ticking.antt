@@ -1,5 +1,5 @@
 -- How ticks of every shard count.
-use Rattle.std.proofs.Common.{◌≡◌, ℕ, zero, suc, ◌+◌, ◌<◌, ◌≤◌, Bool, true, false, cond, List, [], ◌∷◌, ◌++◌, Option, IfSome, refl, sym, ap, subst, ◌∙◌, arith, ◌⊎◌, inl, inr}
+use Rattle.std.proofs.Common.{◌≡◌, ℕ, zero, suc, ◌+◌, ◌<◌, ◌≤◌, Bool, true, false, cond, List, [], ◌∷◌, ◌++◌, Option, refl, sym, ap, subst, ◌∙◌, arith, ◌⊎◌, inl, inr}
 use Rattle.std.specs.Prelude.{◌==◌, ◌&&◌, count_by}
 use Rattle.std.proofs.lemmas.Bool.{eq-eqb, ne_eqb, cases_lt}
 use Rattle.std.proofs.Math.Bool.{and-true}
@@ -11,7 +11,7 @@ use Rattle.rsl_shard.specs.declared.moved.Move.{Move}
 use Rattle.rsl_shard.specs.declared.moved.Move.TheVariants as moves
 use Rattle.rsl_port.proofs.Callers.{more_shown, none_shown}
 use Rattle.rsl_port.specs.Shown.{HasShown}
-use Rattle.rsl_service.specs.Ticked.{AreTicked, HasWorked, IsTurn, Ticked, NoTurn, ThenAll, ThenSome, is_tick, ticks_of}
+use Rattle.rsl_service.specs.Ticked.{AreTicked, HasWorked, IsTurn, Paused, NoPause, ThenPause, Ticked, NoTurn, ThenAll, ThenSome, is_tick, ticks_of}
 
 -- with one receipt more
 count_more : (counts : Receipt → Bool) (receipts : List Receipt) (more : Receipt) (b : Bool)
@@ -176,17 +176,42 @@ one_taken shards done more turns old_shown mid_shown new_shown old mid new so_fa
         subst (λ n. Ticked shards old n (turns + 1) (so_far.shown ++ turn.moment ∷ []) new) (omega (arith, none))
         (ThenSome so_far.ticked turn.moment swept fewer noted)
 
+-- so many pauses were made, and the last answered whether another turn follows
+pub record HasPaused (turns : ℕ) (goes_on : Bool) (old_said new_said : Option (List Bool)) : Type 0 where
+  pub said : List Bool
+  pub answered : HasShown said old_said new_said
+  pub paused : Paused turns goes_on said
+
+-- before the first pause
+pub none_paused : (said : Option (List Bool)) → HasPaused 0 true said said
+none_paused said = record { said = []; answered = none_shown said; paused = NoPause }
+
+-- after a pause more
+pub one_paused : (turns : ℕ) (goes_on : Bool) (old_said mid_said new_said : Option (List Bool))
+    → HasPaused turns true old_said mid_said → HasShown (goes_on ∷ []) mid_said new_said
+    → HasPaused (turns + 1) goes_on old_said new_said
+one_paused turns goes_on old_said mid_said new_said so_far answered = record {
+  said = so_far.said ++ goes_on ∷ [];
+  answered = more_shown so_far.said (goes_on ∷ []) old_said mid_said new_said so_far.answered answered;
+  paused = ThenPause so_far.paused goes_on;
+}
+
 -- a worker that has taken all its turns, or that a pause has ended
-pub has_worked : (shards done turns most : ℕ) (said : Option Bool)
+pub has_worked : (shards done turns most : ℕ) (goes_on : Bool) (old_said new_said : Option (List Bool))
     (old_shown new_shown : Option (List ℕ)) (old new : List Receipt) → turns ≤ most
-    → (turns < most → IfSome said (λ said. said ≡ false))
+    → (turns < most → goes_on ≡ false)
+    → HasPaused turns goes_on old_said new_said
     → Taken shards done turns old_shown new_shown old new
-    → HasWorked shards done most said old_shown new_shown old new
-has_worked shards done turns most said old_shown new_shown old new few early taken = record {
+    → HasWorked shards done most old_said new_said old_shown new_shown old new
+has_worked shards done turns most goes_on old_said new_said old_shown new_shown old new few early paused taken = record {
   turns = turns;
+  goes_on = goes_on;
+  said = paused.said;
   shown = taken.shown;
   few = few;
   early = early;
+  paused = paused.paused;
+  answered = paused.answered;
   read = taken.read;
   ticked = taken.ticked;
 }

@@ -1,5 +1,5 @@
 -- What a worker that makes ticks leaves in its pass.
-use Rattle.std.specs.Prelude.{◌≡◌, ℕ, ◌+◌, ◌<◌, ◌≤◌, ◌⊎◌, Bool, true, false, ◌==◌, ◌&&◌, List, [], ◌∷◌, ◌++◌, Option, IfSome, count_by}
+use Rattle.std.specs.Prelude.{◌≡◌, ℕ, ◌+◌, ◌<◌, ◌≤◌, ◌⊎◌, Bool, true, false, ◌==◌, ◌&&◌, List, [], ◌∷◌, ◌++◌, Option, count_by}
 use Rattle.rsl_service.specs.Receipts.{AreNoted, count_of}
 use Rattle.rsl_record.specs.declared.receipt.Receipt.{Receipt}
 use Rattle.rsl_shard.specs.declared.moved.Move.{Move}
@@ -44,13 +44,24 @@ pub record IsTurn (shards done : ℕ) (old_shown new_shown : Option (List ℕ))
   pub ticked : ((done ≡ 1) × AreNoted shards (Tick moment) old new)
       ⊎ ((done ≡ 0) × (swept : ℕ) × (swept < shards) × AreNoted swept (Tick moment) old new)
 
--- The turns of a worker: at most `most`, and fewer only if a pause, if it reports what it answered,
--- last answered that there are to be no more.
-pub record HasWorked (shards : ℕ) (done most : ℕ) (said : Option Bool)
+-- so many pauses, each after a turn: all but the last answered that another turn follows, and the
+-- last answered whether one does
+pub data Paused : (turns : ℕ) → (goes_on : Bool) → (said : List Bool) → Type 0 where
+  NoPause : Paused 0 true []
+  ThenPause : {turns : ℕ} {said : List Bool} → Paused turns true said
+      → (goes_on : Bool) → Paused (turns + 1) goes_on (said ++ goes_on ∷ [])
+
+-- The turns of a worker: at most `most`, with a pause after each, and none after a pause that
+-- answered that there is to be none. It has fewer only for such a pause.
+pub record HasWorked (shards : ℕ) (done most : ℕ) (old_said new_said : Option (List Bool))
     (old_shown new_shown : Option (List ℕ)) (old new : List Receipt) : Type 0 where
   pub turns : ℕ
+  pub goes_on : Bool
+  pub said : List Bool
   pub shown : List ℕ
   pub few : turns ≤ most
-  pub early : turns < most → IfSome said (λ said. said ≡ false)
+  pub early : turns < most → goes_on ≡ false
+  pub paused : Paused turns goes_on said
+  pub answered : HasShown said old_said new_said
   pub read : HasShown shown old_shown new_shown
   pub ticked : Ticked shards old done turns shown new

@@ -32,8 +32,8 @@ pub fn expire_loop<
 ) -> u64
     ensures most { result ≤ turns }
     ensures ticked { AreTicked service.now.config.settings.shards result turns pass.old.receipts pass.new.receipts }
-    ensures worked { HasWorked service.now.config.settings.shards result turns (P.said pause.new)
-        (C.shown clock.old) (C.shown clock.new) pass.old.receipts pass.new.receipts }
+    ensures worked { HasWorked service.now.config.settings.shards result turns
+        (P.said pause.old) (P.said pause.new) (C.shown clock.old) (C.shown clock.new) pass.old.receipts pass.new.receipts }
 {
     let mut done = 0;
     for _ in 0..turns {

@@ -176,7 +176,7 @@ impl<L0: Tally, L1: Tally, L2: Tally, L3: Tally> Served<L0, L1, L2, L3> {
         text: &mut String,
     ) -> Result<(), Fail> {
         let (turns, left) = pair_of(day.worker)?;
-        let mut pauses = Pauses::new(left);
+        let mut pauses = Pauses::new(alloc, left);
         let done = expire_loop(
             rt,
             alloc,

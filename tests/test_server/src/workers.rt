@@ -48,31 +48,36 @@ impl Clock for Steady {
 
 /// The pauses after which there is a turn more.
 ///
-/// It reports what it said last.
+/// It reports what it said, unless it was refused the memory to keep that.
 #[derive(Drop)]
 pub(crate) struct Pauses {
     left: u64,
-    goes_on: bool,
+    said: Vec<bool>,
+    is_telling: bool,
 }
 
 impl Pauses {
     /// The first `left` pauses say yes. Those after them say no.
-    pub(crate) fn new(left: u64) -> Pauses {
+    pub(crate) fn new(alloc: Global, left: u64) -> Pauses {
         Pauses {
             left,
-            goes_on: true,
+            said: Vec::new(alloc),
+            is_telling: true,
         }
     }
 }
 
 impl Pause for Pauses {
-    ghost use Rattle.std.specs.Prelude.{Some};
+    ghost use Rattle.std.specs.Prelude.{Some, None, if◌then◌else◌};
 
-    ghost said = { λ pauses. Some pauses.goes_on };
+    ghost said = { λ pauses. if pauses.is_telling then Some pauses.said.items else None };
 
     fn pause(&mut self) -> bool {
-        self.goes_on = self.left > 0;
+        let goes_on = self.left > 0;
         self.left = self.left.saturating_sub(1);
-        self.goes_on
+        if self.said.push(goes_on).is_err() {
+            self.is_telling = false;
+        }
+        goes_on
     }
 }
