@@ -3,14 +3,15 @@
 use crate::form::AskForm;
 use crate::outcome::Outcome;
 use crate::refused::Refused;
+use rsl_wire::Octets;
 
 /// What is answered to an ask.
 #[derive(Drop)]
 pub struct Answer {
     /// What became of it.
     pub outcome: Outcome,
-    /// The octets of the reply to its request, where there is one.
-    pub reply: Vec<u8>,
+    /// The octets of the reply to its request; none where there is no reply.
+    pub reply: Octets,
 }
 
 /// A server to which asks are put.

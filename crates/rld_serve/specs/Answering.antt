@@ -84,7 +84,7 @@ TellsChange (Err fault) octets = IsRefused octets
 abbrev pub TellsAccepted : AskAnswer → (octets : List ℕ) → Type 0
 TellsAccepted answer octets =
     (answer.outcome ≡ outcomes.Accepted)
-    × (octets ≡ lines_of (attributes_of answer.reply.items) ++ codes "ok\n")
+    × (octets ≡ lines_of (attributes_of answer.reply) ++ codes "ok\n")
 
 -- why an ask with this outcome has no such answer
 abbrev pub IsUntold : Outcome → AskFault → Type 0

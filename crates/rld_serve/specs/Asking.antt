@@ -1,11 +1,26 @@
 -- What became of asks, by how their requests ended, and what is answered to each.
-use Rattle.std.specs.Prelude.{◌≡◌, ◌⊎◌, ℕ, List, [], ◌∷◌, map, Option, Some, None}
+use Rattle.std.specs.Prelude.{◌≡◌, ◌⊎◌, ℕ, List, [], ◌∷◌, map, Option, Some, None, IfSome}
+use Rattle.std.specs.declared.net.socket_addr.SocketAddr.{SocketAddr}
 use Rattle.rld_ask.specs.Outcome.{outcome_of}
 use Rattle.rld_ask.specs.declared.asked.Answer.{Answer}
+use Rattle.rld_ask.specs.declared.form.AskForm.{AskForm}
 use Rattle.rld_ask.specs.declared.outcome.Outcome.{Outcome}
+use Rattle.rld_networks.specs.declared.network.Network.{Network}
+use Rattle.rld_store.specs.Recorded.{RecordedSeen}
+use Rattle.rld_turn.specs.Present.{ServiceSeen}
+use Rattle.rld_turn.specs.Recorded.{IsOf, books_before, is_recorded}
+use Rattle.rld_turn.specs.Told.{Told}
+use Rattle.rld_turn.specs.Turned.{Turned}
 use Rattle.rld_turn.specs.declared.ends.End.{End}
-use Rattle.rld_turn.specs.declared.ends.End.TheVariants.{Answered}
+use Rattle.rld_turn.specs.declared.ends.End.TheVariants.{Answered, Unsent}
+use Rattle.rld_turn.specs.declared.peer_port.PeerDatagram.{PeerDatagram}
+use Rattle.rsl_accounts.specs.Configuration.{Configuration}
+use Rattle.rsl_event.specs.declared.meaning.Port.TheVariants.{Auth}
 use Rattle.rsl_event.specs.declared.words.Said.{Said}
+use Rattle.rsl_shard.specs.declared.moved.Move.{Move}
+use Rattle.rld_serve.specs.Noting.{noted_in}
+use Rattle.rld_serve.specs.Requests.{AreRequests, IsPeerOf, datagrams_of}
+use Rattle.rld_serve.specs.Turning.{IsServiceOf}
 use Rattle.rld_serve.specs.declared.ask_watch.Noted.{Noted}
 
 -- what was answered to a request, if anything was
@@ -18,32 +33,64 @@ outcome_noted noted = outcome_of (said_in noted.end) noted.detail
 
 -- what an answer says: what became of the ask, and the octets of its reply
 abbrev pub told_in : Answer → Outcome × List ℕ
-told_in answer = (answer.outcome, answer.reply.items)
+told_in answer = (answer.outcome, answer.reply)
 
--- the reply to a request: the next one that was sent, if this was answered
-abbrev pub reply_if : Option Said → (replies : List (List ℕ)) → List ℕ
-reply_if None replies = []
-reply_if (Some said) [] = []
-reply_if (Some said) (reply ∷ others) = reply
+abbrev pub first_octets : List PeerDatagram → List ℕ
+first_octets [] = []
+first_octets (one ∷ others) = one.octets
 
--- the replies after that
-abbrev pub replies_after : Option Said → (replies : List (List ℕ)) → List (List ℕ)
-replies_after None replies = replies
-replies_after (Some said) [] = []
-replies_after (Some said) (reply ∷ others) = others
+abbrev pub after_first : List PeerDatagram → List PeerDatagram
+after_first [] = []
+after_first (one ∷ others) = others
 
--- what the answers say to asks whose requests ended so, where these are the replies that were sent, in order
-abbrev pub answers_told : List Noted → (replies : List (List ℕ)) → List (Outcome × List ℕ)
+-- the reply to a request that ended so: the next one, if it was answered
+abbrev pub reply_if : End → (replies : List PeerDatagram) → List ℕ
+reply_if (Answered said) replies = first_octets replies
+reply_if _ replies = []
+
+-- the replies after that; one that could not be sent is passed over
+abbrev pub replies_after : End → (replies : List PeerDatagram) → List PeerDatagram
+replies_after (Answered said) replies = after_first replies
+replies_after (Unsent said) replies = after_first replies
+replies_after _ replies = replies
+
+-- what the answers say to asks whose requests ended so, where these are the replies, in order
+abbrev pub answers_told : List Noted → (replies : List PeerDatagram) → List (Outcome × List ℕ)
 answers_told [] replies = []
 answers_told (noted ∷ others) replies =
-    (outcome_noted noted, reply_if (said_in noted.end) replies)
-    ∷ answers_told others (replies_after (said_in noted.end) replies)
+    (outcome_noted noted, reply_if noted.end replies)
+    ∷ answers_told others (replies_after noted.end replies)
 
 -- the answers to asks whose requests ended so, with these replies; or none, where memory is refused
-abbrev pub AreAnswers : List Noted → (replies : List (List ℕ)) → List Answer → Type 0
+abbrev pub AreAnswers : List Noted → (replies : List PeerDatagram) → List Answer → Type 0
 AreAnswers noted replies answers = (answers ≡ []) ⊎ (map told_in answers ≡ answers_told noted replies)
 
--- the answers to asks whose requests ended so, with the replies that were sent
-pub record AreAnswered (noted : List Noted) (answers : List Answer) : Type 0 where
-  pub replies : List (List ℕ)
-  pub are : AreAnswers noted replies answers
+-- Answers to the first of these asks, in their order, which come from this client: their requests were taken in one
+-- turn with these accounts, networks and boot number, which was recorded in this era or not at all. Each answer says
+-- how its own request ended, with its own reply.
+pub record AreAnswersTo (config : Configuration) (networks : List Network) (boot era : ℕ) (client : List ℕ)
+    (asks : List AskForm) (answers : List Answer) : Type 0 where
+  pub service : ServiceSeen
+  pub requests : List (List ℕ)
+  pub peer : SocketAddr
+  pub told : List Told
+  pub batch : List Move
+  pub replies : List PeerDatagram
+  pub moment : ℕ
+  pub recorded : Option RecordedSeen
+  pub served : IsServiceOf config networks boot service
+  pub of_asks : AreRequests config client asks requests
+  pub of_client : IsPeerOf client peer
+  pub of_era : IfSome recorded (λ one. one.era ≡ era)
+  pub whole : IsOf batch recorded
+  pub turned : Turned service Auth moment (is_recorded recorded) (books_before recorded)
+      told (datagrams_of peer requests) batch replies
+  pub are : map told_in answers ≡ answers_told (map noted_in told) replies
+
+-- the same, with whatever accounts are present; or no answers, where memory is refused or no client has the address
+pub record AreAnswered (networks : List Network) (client : List ℕ) (asks : List AskForm) (answers : List Answer)
+    : Type 0 where
+  pub config : Configuration
+  pub boot : ℕ
+  pub era : ℕ
+  pub are : (answers ≡ []) ⊎ AreAnswersTo config networks boot era client asks answers

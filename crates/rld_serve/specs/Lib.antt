@@ -7,4 +7,5 @@ pub mod Following
 pub mod Hearing
 pub mod Look
 pub mod Noting
+pub mod Requests
 pub mod Turning

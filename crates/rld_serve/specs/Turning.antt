@@ -3,6 +3,7 @@ use Rattle.std.specs.Prelude.{◌≡◌, ℕ, List, None, Option, IfSome}
 use Rattle.rld_networks.specs.declared.network.Network.{Network}
 use Rattle.rld_store.specs.Recorded.{RecordedSeen}
 use Rattle.rld_turn.specs.Present.{ServiceSeen}
+use Rattle.rld_turn.specs.Told.{Told}
 use Rattle.rld_turn.specs.Turned.{IsDecidedBy, State}
 use Rattle.rld_turn.specs.declared.ends.Ends.{Ends}
 use Rattle.rsl_accounts.specs.Configuration.{Configuration, client_number}
@@ -19,8 +20,9 @@ pub record IsServiceOf (config : Configuration) (networks : List Network) (boot 
 
 -- a turn with these accounts, networks and boot number, which is recorded in this era or not at all
 pub record HasTurnedWith (config : Configuration) (networks : List Network) (boot era : ℕ) (port : Port)
-    (Tells : Type 0) (ends : Ends) (recorded : Option RecordedSeen) (old new : State) : Type 0 where
+    (Tells : Type 0) (ends : Ends) (recorded : Option RecordedSeen) (old new : State)
+    (knew knows : List Told → Type 0) : Type 0 where
   pub service : ServiceSeen
   pub served : IsServiceOf config networks boot service
-  pub decided : IsDecidedBy service port Tells ends recorded old new
+  pub decided : IsDecidedBy service port Tells ends recorded old new knew knows
   pub of_era : IfSome recorded (λ one. one.era ≡ era)

@@ -1,6 +1,6 @@
 ghost use Rattle.std.specs.Prelude.{◌≡◌, [], IfOk, true};
 ghost use Rattle.rld_serve.specs.Asking.{outcome_noted, said_in};
-ghost use Rattle.rld_serve.specs.Noting.{HasKept, noted_if, noted_of};
+ghost use Rattle.rld_serve.specs.Noting.{HasKept, HasNoted, noted_if, noted_of};
 
 use rld_ask::{Outcome, Refused};
 use rld_counts::{AskEnd, End as CountedEnd};
@@ -29,8 +29,15 @@ impl Noted {
         }
     }
 
+    /// How it ended.
+    pub(crate) fn end(&self) -> End
+        ensures { result ≡ self.now.end }
+    {
+        self.end
+    }
+
     /// What was answered to it, if anything was.
-    pub(crate) fn said(&self) -> Option<Said>
+    fn said(&self) -> Option<Said>
         ensures { result ≡ said_in self.now.end }
     {
         match self.end {
@@ -109,17 +116,14 @@ impl<'a, R: Wait + Clock> AskWatch<'a, R> {
 }
 
 impl<R: Wait + Clock> Watch for AskWatch<'_, R> {
-    fn begin(&mut self)
-        ensures noted { self.new.noted.items ≡ self.old.noted.items }
-        ensures whole { self.new.is_whole ≡ self.old.is_whole }
-    {
+    ghost knows = { λ watch told. HasNoted watch.is_whole watch.noted.items told };
+
+    fn begin(&mut self) {
         self.watcher.begin();
     }
 
-    fn note(&mut self, ended: Ended<'_>)
-        ensures { HasKept (noted_of ended.entry) self.old.is_whole self.new.is_whole
-            self.old.noted.items self.new.noted.items }
-    {
+    #[tactic(auto, using(crate::proofs::Asks::noted_more))]
+    fn note(&mut self, ended: Ended<'_>) {
         self.keep(&ended);
         self.watcher.note(ended);
     }

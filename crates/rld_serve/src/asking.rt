@@ -1,23 +1,24 @@
 //! Asks of whoever checks logins himself: each is the Access-Request that its client would have sent, and takes
 //! the way of every datagram, in a turn of a receiver.
 
-ghost use Rattle.std.specs.Prelude.{◌≡◌, ◌++◌, [], false, true, codes, IfErr, IfOk, OnOk, map};
+ghost use Rattle.std.specs.Prelude.{◌≡◌, ◌⊎◌, ◌∷◌, ◌++◌, [], false, true, codes, map, IfErr, IfNone, IfOk, IfSome, OnOk, Some};
+ghost use Rattle.std.specs.Arc.{arc_value};
 ghost use Rattle.rld_ask.specs.Form.{fault_text, form_of};
 ghost use Rattle.rld_serve.specs.Answering.{IsUntold, TellsAccepted};
-ghost use Rattle.rld_serve.specs.Asked.{IsToldOf, IsUnasked, TellsFirst};
+ghost use Rattle.rld_serve.specs.Asked.{IsToldOf, IsUnasked, TellsFirst, client_of};
 ghost use Rattle.rld_serve.specs.Asking.{
   AreAnswered,
   AreAnswers,
+  AreAnswersTo,
   answers_told,
   outcome_noted,
   replies_after,
   reply_if,
-  said_in,
   told_in,
 };
 ghost use Rattle.rld_serve.specs.Following.{IsFaultOf};
-ghost use Rattle.rld_serve.specs.Noting.{noted_if};
-ghost use Rattle.rld_serve.specs.declared.ask_fault.AskFault.TheVariants.{NoMemory};
+ghost use Rattle.rld_serve.specs.declared.ask_fault.AskFault.TheVariants.{NoMemory as refused};
+ghost use Rattle.rsl_event.specs.declared.meaning.Port.TheVariants.{Auth};
 
 use crate::accounts::Accounts;
 use crate::ask_fault::AskFault;
@@ -33,11 +34,12 @@ use rld_edges::RunFault;
 use rld_log::{FileLog, PacedLog};
 use rld_start::Generations;
 use rld_state::Told;
-use rld_turn::Turn;
+use rld_turn::{End, PeerDatagram, Turn};
 use rld_watch::{WatchContext, Watcher};
 use rsl_event::Port;
 use rsl_port::{Clock, SystemClock};
-use std::alloc::{AllocError, Global};
+use rsl_wire::{NoMemory, Octets};
+use std::alloc::Global;
 use std::collections::VecDeque;
 use std::net::Net;
 use std::sync::Wait;
@@ -60,6 +62,7 @@ struct Place<'s, 'a, R: Wait + time::Clock> {
     recorder: SharedRecorder<'s, PacedLog<'a, FileLog>, R>,
     clock: SystemClock<'s, R>,
     watch: AskWatch<'s, R>,
+    ghost port: { receiver.receiver.port ≡ Auth },
 }
 
 /// How many seconds lie between two lines on requests that were refused.
@@ -94,9 +97,10 @@ where
     }
 
     fn note(&mut self, refused: Refused) {
-        self.place.watch.count_refused(refused);
+        let place = &mut self.place;
+        place.watch.count_refused(refused);
+        let moment = place.clock.now();
         self.refused.add(refused);
-        let moment = self.place.clock.now();
         if moment.saturating_sub(self.told) >= TOLD_SECS {
             let Refused { token, other } = self.refused;
             self.server.tell(Told::Asks(token, other));
@@ -147,7 +151,10 @@ where
     R: Wait + time::Clock,
 {
     /// What takes asks, if the server's file says that they come in.
-    fn ask_place(&self) -> Result<Option<Place<'_, 'a, R>>, RunFault> {
+    fn ask_place(&self) -> Result<Option<Place<'_, 'a, R>>, RunFault>
+        ensures { IfOk result (λ found. IfSome found (λ place.
+            client_of self.now.seat ≡ Some place.client)) }
+    {
         let Some(seat) = self.seat else {
             return Ok(None);
         };
@@ -179,8 +186,9 @@ where
             OnOk result (place.new.recorder.has_ended ≡ false) }
         ensures ends { place.old.recorder.has_ended ≡ false →
             IfErr result (IsFaultOf place.new.recorder.has_ended) }
-        ensures answered { IfOk result (λ answers. AreAnswered
-            (noted_if place.new.watch.is_whole place.new.watch.noted.items) answers.items) }
+        ensures client { place.new.client ≡ place.old.client }
+        ensures answered { IfOk result (λ answers.
+            AreAnswered self.now.plan.networks.now place.old.client asks.now answers.items) }
     {
         place.watch.forget();
         let current = self.current.read(self.rt);
@@ -200,8 +208,10 @@ where
             OnOk result (place.new.recorder.has_ended ≡ false) }
         ensures ends { place.old.recorder.has_ended ≡ false →
             IfErr result (IsFaultOf place.new.recorder.has_ended) }
-        ensures answered { IfOk result (λ answers. AreAnswered
-            (noted_if place.new.watch.is_whole place.new.watch.noted.items) answers.items) }
+        ensures client { place.new.client ≡ place.old.client }
+        ensures answered { IfOk result (λ answers. (answers.items ≡ [])
+            ⊎ AreAnswersTo (arc_value current.now.config) self.now.plan.networks.now
+            current.now.boot current.now.header.era place.old.client asks.now answers.items) }
     {
         let Ok(mut port) = AskPort::new(self.alloc, &*current.config, place.client, asks) else {
             return Ok(Vec::new(self.alloc));
@@ -222,7 +232,8 @@ where
 
     /// Answers the ask of an operator, by its form.
     pub(crate) fn ask(&self, form: &[u8]) -> Result<Vec<u8>, AskFault>
-        ensures told { IfOk result (λ octets. IsToldOf (form_of form.now) octets.items) }
+        ensures told { IfOk result (λ octets.
+            IsToldOf self.now.plan.networks.now self.now.seat (form_of form.now) octets.items) }
         ensures fault { IfErr result IsUnasked }
     {
         match AskForm::read(self.alloc, form) {
@@ -236,7 +247,7 @@ where
     fn told_fault(&self, fault: FormFault) -> Result<Vec<u8>, AskFault>
         ensures told { IfOk result (λ octets. octets.items
             ≡ codes "error " ++ (fault_text fault ++ codes "\n")) }
-        ensures fault { IfErr result (λ fault. fault ≡ NoMemory) }
+        ensures fault { IfErr result (λ fault. fault ≡ refused) }
     {
         let mut text = Vec::new(self.alloc);
         fault.push(&mut text)?;
@@ -245,7 +256,8 @@ where
 
     /// A place for the ask of an operator. `NoAsks` comes where the server's file says nothing of asks.
     fn seated(&self) -> Result<Place<'_, 'a, R>, AskFault>
-        ensures { IfErr result IsUnasked }
+        ensures client { IfOk result (λ place. client_of self.now.seat ≡ Some place.client) }
+        ensures fault { IfErr result IsUnasked }
     {
         match self.ask_place() {
             Ok(Some(place)) => Ok(place),
@@ -256,8 +268,8 @@ where
 
     /// What an operator is told of an ask, which has a turn of its own at this place.
     fn told_at(&self, place: &mut Place<'_, 'a, R>, ask: AskForm) -> Result<Vec<u8>, AskFault>
-        ensures told { IfOk result (λ octets. TellsFirst
-            (noted_if place.new.watch.is_whole place.new.watch.noted.items) octets.items) }
+        ensures told { IfOk result (λ octets.
+            TellsFirst self.now.plan.networks.now place.old.client ask octets.items) }
         ensures fault { IfErr result IsUnasked }
     {
         let asks = vec![in self.alloc; ask]?;
@@ -285,48 +297,66 @@ where
     }
 }
 
-/// The answers to asks whose requests ended so, with the replies to those that were answered; none where memory is
+/// The answers to asks whose requests ended so, with these replies; none where one of them was lost or memory is
 /// refused.
-fn answers_or_none(alloc: Global, noted: &[Noted], replies: VecDeque<Vec<u8>>) -> Vec<Answer>
-    ensures { AreAnswers noted.now (map (λ reply. reply.items) replies.items) result.items }
+fn answers_or_none(
+    alloc: Global,
+    noted: &[Noted],
+    replies: Option<VecDeque<PeerDatagram>>,
+) -> Vec<Answer>
+    ensures lost { IfNone replies (result.items ≡ []) }
+    ensures kept { IfSome replies (λ replies. AreAnswers noted.now replies.items result.items) }
 {
+    let Some(replies) = replies else {
+        return Vec::new(alloc);
+    };
     match answers_of(alloc, noted, replies) {
         Ok(answers) => answers,
         Err(_) => Vec::new(alloc),
     }
 }
 
-/// The answers to asks whose requests ended so, with the replies to those that were answered.
+/// The answers to asks whose requests ended so, with these replies.
 fn answers_of(
     alloc: Global,
     noted: &[Noted],
-    replies: VecDeque<Vec<u8>>,
-) -> Result<Vec<Answer>, AllocError>
-    ensures { IfOk result (λ answers. map told_in answers.items
-        ≡ answers_told noted.now (map (λ reply. reply.items) replies.items)) }
+    replies: VecDeque<PeerDatagram>,
+) -> Result<Vec<Answer>, NoMemory>
+    ensures { IfOk result (λ answers. map told_in answers.items ≡ answers_told noted.now replies.items) }
 {
     let mut answers = Vec::with_capacity(alloc, noted.len())?;
     let mut replies = replies;
     for one in noted {
-        answers.push(answer_of(alloc, one, &mut replies))?;
+        answers.push(answer_of(alloc, one, &mut replies)?)?;
     }
     Ok(answers)
 }
 
-/// The answer to an ask whose request ended so: with the next reply, if it was answered.
-fn answer_of(alloc: Global, one: &Noted, replies: &mut VecDeque<Vec<u8>>) -> Answer
-    ensures outcome { result.outcome ≡ outcome_noted one.now }
-    ensures reply { result.reply.items
-        ≡ reply_if (said_in one.now.end) (map (λ reply. reply.items) replies.old.items) }
-    ensures rest { map (λ reply. reply.items) replies.new.items
-        ≡ replies_after (said_in one.now.end) (map (λ reply. reply.items) replies.old.items) }
+/// The answer to an ask whose request ended so: with the next reply, if it was answered. One that could not be
+/// sent is passed over.
+fn answer_of(
+    alloc: Global,
+    one: &Noted,
+    replies: &mut VecDeque<PeerDatagram>,
+) -> Result<Answer, NoMemory>
+    ensures outcome { IfOk result (λ answer. answer.outcome ≡ outcome_noted one.now) }
+    ensures reply { IfOk result (λ answer. answer.reply ≡ reply_if one.now.end replies.old.items) }
+    ensures rest { OnOk result (replies.new.items ≡ replies_after one.now.end replies.old.items) }
 {
-    let reply = match one.said() {
-        Some(_) => replies.pop_front(),
-        None => None,
+    let sent = match one.end() {
+        End::Answered(_) => replies.pop_front(),
+        End::Unsent(_) => {
+            drop(replies.pop_front());
+            None
+        }
+        End::Dropped(_) | End::Refused | End::Unrecorded => None,
     };
-    Answer {
+    let reply = match sent {
+        Some(sent) => sent.octets,
+        None => Octets::from_slice(alloc, &[])?,
+    };
+    Ok(Answer {
         outcome: one.outcome(),
-        reply: reply.unwrap_or(Vec::new(alloc)),
-    }
+        reply,
+    })
 }

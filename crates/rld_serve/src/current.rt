@@ -97,13 +97,14 @@ impl PresentReceiver {
         watch: &mut W,
     ) -> Turn
         ensures same { self.new.receiver.port ≡ self.old.receiver.port }
+        ensures contents { P.contents datagrams.new ≡ P.contents datagrams.old }
         ensures turned { HasTurnedWith (arc_value current.now.config) networks.now
             current.now.boot current.now.header.era self.old.receiver.port
             (P.tells datagrams.new ≡ true) result.ends result.recorded
             (state_of (P.taken datagrams.old) (P.sent datagrams.old) (C.shown clock.old)
-            (W.told watch.old) (L.books recorder.old))
+            (L.books recorder.old))
             (state_of (P.taken datagrams.new) (P.sent datagrams.new) (C.shown clock.new)
-            (W.told watch.new) (L.books recorder.new)) }
+            (L.books recorder.new)) (W.knows watch.old) (W.knows watch.new) }
         ensures ended { L.is_over recorder.old ≡ false → is_down result.ending ≡ false →
             L.is_over recorder.new ≡ is_ended result.ending }
     {

@@ -40,7 +40,7 @@ use Rattle.rld_turn.specs.declared.request.Request.{Request}
 pub record AreAnswered (service : ServiceSeen) (port : Port) (Tells : Type 0) (moment : ℕ)
     (decisions : Option (List Decision)) (begun : List BooksSeen) (taken : List PeerDatagram)
     (moves : List Move) (left : List Entry) (ends : Ends) (old new : List PeerDatagram)
-    (old_told new_told : Option (List Told)) : Type 0 where
+    (knew knows : List Told → Type 0) : Type 0 where
   pub told : List Told
   pub done : List PeerDatagram
   pub rest : List PeerDatagram
@@ -49,7 +49,7 @@ pub record AreAnswered (service : ServiceSeen) (port : Port) (Tells : Type 0) (m
   pub all : taken ≡ done ++ rest
   pub entered : AreEntered service port moment rest left batch moves
   pub more_sent : Tells → new ≡ old ++ sent
-  pub more_told : HasTold told old_told new_told
+  pub more_told : HasTold told knew knows
   pub turned : Turned service port moment (is_recorded decisions) begun told done batch sent
   pub numbers : AreNumbersOf told ends.dropped ends.refused ends.unrecorded ends.answered ends.unsent
 
@@ -167,10 +167,10 @@ entry_told config (Moved request place) end told e so = one_told (told_by_reques
 -- nothing more is left
 pub all_answered : (service : ServiceSeen) (port : Port) (Tells : Type 0) (decisions : Option (List Decision))
     (entries : List Entry) (batch : Batch service port decisions entries) (left : List Entry) (e : Ends) (old new : List PeerDatagram)
-    (old_told new_told : Option (List Told)) → left ≡ []
-    → AreAnswered service port Tells batch.moment decisions batch.begun batch.taken batch.moves left e old new old_told new_told
-    → HasAnswered service port Tells decisions entries batch e old new old_told new_told
-all_answered service port Tells decisions entries batch left e old new old_told new_told none so =
+    (knew knows : List Told → Type 0) → left ≡ []
+    → AreAnswered service port Tells batch.moment decisions batch.begun batch.taken batch.moves left e old new knew knows
+    → HasAnswered service port Tells decisions entries batch e old new knew knows
+all_answered service port Tells decisions entries batch left e old new knew knows none so =
     let last = subst (λ (l : List Entry). AreEntered service port batch.moment so.rest l so.batch batch.moves) none so.entered in
     record {
       sent = so.sent;
@@ -188,10 +188,10 @@ all_answered service port Tells decisions entries batch left e old new old_told 
 -- none is answered yet
 pub none_answered : (service : ServiceSeen) (port : Port) (Tells : Type 0) (decisions : Option (List Decision))
     (entries : List Entry) (batch : Batch service port decisions entries) (e : Ends) (old : List PeerDatagram)
-    (old_told : Option (List Told)) → e ≡ no_ends
-    → AreAnswered service port Tells batch.moment decisions batch.begun batch.taken batch.moves entries e old old old_told old_told
-none_answered service port Tells decisions entries batch e old old_told none =
-    subst (λ (n : Ends). AreAnswered service port Tells batch.moment decisions batch.begun batch.taken batch.moves entries n old old old_told old_told) (sym none) (record {
+    (knows : List Told → Type 0) → e ≡ no_ends
+    → AreAnswered service port Tells batch.moment decisions batch.begun batch.taken batch.moves entries e old old knows knows
+none_answered service port Tells decisions entries batch e old knows none =
+    subst (λ (n : Ends). AreAnswered service port Tells batch.moment decisions batch.begun batch.taken batch.moves entries n old old knows knows) (sym none) (record {
       told = [];
       done = [];
       rest = batch.taken;
@@ -200,7 +200,7 @@ none_answered service port Tells decisions entries batch e old old_told none =
       all = refl;
       entered = batch.entered;
       more_sent = λ tells. sym (append-nil old);
-      more_told = none_told old_told;
+      more_told = none_told knows;
       turned = NoneYet;
       numbers = no_numbers;
     })
@@ -208,15 +208,15 @@ none_answered service port Tells decisions entries batch e old old_told none =
 -- one more is answered
 pub one_answered : (service : ServiceSeen) (port : Port) (Tells_then Tells : Type 0) (moment : ℕ) (decisions : Option (List Decision))
     (begun : List BooksSeen) (taken : List PeerDatagram) (moves : List Move) (entry : Entry) (left others : List Entry)
-    (end : End) (e after : Ends) (old mid new : List PeerDatagram) (old_told mid_told new_told : Option (List Told))
+    (end : End) (e after : Ends) (old mid new : List PeerDatagram) (knew between knows : List Told → Type 0)
     → left ≡ entry ∷ others → HasDecided begun moves decisions → IsEndOf decisions entry end
     → after ≡ counted_end end e → (Tells → Tells_then) → (Tells → new ≡ mid ++ sent_by service decisions entry)
-    → HasTold (told_by service.config entry end ∷ []) mid_told new_told
-    → AreAnswered service port Tells_then moment decisions begun taken moves left e old mid old_told mid_told
-    → AreAnswered service port Tells moment decisions begun taken moves others after old new old_told new_told
-one_answered service port Tells_then Tells moment decisions begun taken moves entry left others end e after old mid new old_told mid_told new_told is decides ended counts before sends tells so =
+    → HasTold (told_by service.config entry end ∷ []) between knows
+    → AreAnswered service port Tells_then moment decisions begun taken moves left e old mid knew between
+    → AreAnswered service port Tells moment decisions begun taken moves others after old new knew knows
+one_answered service port Tells_then Tells moment decisions begun taken moves entry left others end e after old mid new knew between knows is decides ended counts before sends tells so =
     let f = subst (λ (l : List Entry). AreEntered service port moment so.rest l so.batch moves) is so.entered in
-    subst (λ (n : Ends). AreAnswered service port Tells moment decisions begun taken moves others n old new old_told new_told) (sym counts) (record {
+    subst (λ (n : Ends). AreAnswered service port Tells moment decisions begun taken moves others n old new knew knows) (sym counts) (record {
       told = so.told ++ told_by service.config entry end ∷ [];
       done = so.done ++ f.0 ∷ [];
       rest = f.1;
@@ -226,7 +226,7 @@ one_answered service port Tells_then Tells moment decisions begun taken moves en
       entered = f.5;
       more_sent = λ t. sends t ∙ ap (λ (s : List PeerDatagram). s ++ sent_by service decisions entry) (so.more_sent (before t))
           ∙ append_assoc old so.sent (sent_by service decisions entry);
-      more_told = more_told so.told (told_by service.config entry end ∷ []) old_told mid_told new_told so.more_told tells;
+      more_told = more_told so.told (told_by service.config entry end ∷ []) knew between knows so.more_told tells;
       turned = turned_more service port moment decisions begun so.told so.done f.1 so.batch f.2 moves so.sent f.0 entry others end decides ended f.4 f.5 so.turned;
       numbers = entry_told service.config entry end so.told e so.numbers;
     })

@@ -13,26 +13,22 @@ use Rattle.rld_turn.specs.declared.subject.Subject.{Subject}
 use Rattle.rld_turn.specs.declared.watch.Ended.{Ended}
 
 -- a watcher that was not called was told nothing
-pub none_told : (told : Option (List Told)) → HasTold [] told told
-none_told None = tt
-none_told (Some told) = sym (append-nil told)
+pub none_told : (knows : List Told → Type 0) → HasTold [] knows knows
+none_told knows = λ before known. subst knows (sym (append-nil before)) known
 
 -- ends after ends
-pub more_told : (first then : List Told) (old mid new : Option (List Told)) → HasTold first old mid
-    → HasTold then mid new → HasTold (first ++ then) old new
-more_told first then old mid None before after = tt
-more_told first then old None (Some now) before after = absurd after
-more_told first then None (Some told) (Some now) before after = absurd before
-more_told first then (Some start) (Some told) (Some now) before after =
-    after ∙ ap (λ (t : List Told). t ++ then) before ∙ append_assoc start first then
+pub more_told : (first then : List Told) (knew between knows : List Told → Type 0) → HasTold first knew between
+    → HasTold then between knows → HasTold (first ++ then) knew knows
+more_told first then knew between knows so_far more = λ before known.
+    subst knows (append_assoc before first then) (more (before ++ first) (so_far before known))
 
 -- the client that is told is the one that has the address
-pub known_told : (config : Configuration) (ended : Ended) (old new : Option (List Told))
+pub known_told : (config : Configuration) (ended : Ended) (knew knows : List Told → Type 0)
     → client_number config ended.origin.source.address ≡ ended.client
-    → HasTold (told_as ended ∷ []) old new
-    → HasTold (told_of config ended.origin ended.octets.now ended.detail ended.subject ended.end ∷ []) old new
-known_told config ended old new is told =
-    subst (λ (c : Option ℕ). HasTold (record { origin = ended.origin; client = c; octets = ended.octets.now; detail = ended.detail; subject = ended.subject; end = ended.end } ∷ []) old new) (sym is) told
+    → HasTold (told_as ended ∷ []) knew knows
+    → HasTold (told_of config ended.origin ended.octets.now ended.detail ended.subject ended.end ∷ []) knew knows
+known_told config ended knew knows is told =
+    subst (λ (c : Option ℕ). HasTold (record { origin = ended.origin; client = c; octets = ended.octets.now; detail = ended.detail; subject = ended.subject; end = ended.end } ∷ []) knew knows) (sym is) told
 
 -- a datagram is told of by equal origins, octets, details, subjects and ends
 pub same_told : (config : Configuration) (told : List Told) (from origin : Origin) (octets bytes : List ℕ)

@@ -27,11 +27,11 @@ pub record Batch (service : ServiceSeen) (port : Port) (decisions : Option (List
 pub record HasAnswered (service : ServiceSeen) (port : Port) (Tells : Type 0)
     (decisions : Option (List Decision)) (entries : List Entry)
     (batch : Batch service port decisions entries) (ends : Ends)
-    (old new : List PeerDatagram) (old_told new_told : Option (List Told)) : Type 0 where
+    (old new : List PeerDatagram) (knew knows : List Told → Type 0) : Type 0 where
   pub sent : List PeerDatagram
   pub told : List Told
   pub more_sent : Tells → new ≡ old ++ sent
-  pub more_told : HasTold told old_told new_told
+  pub more_told : HasTold told knew knows
   pub turned : Turned service port batch.moment (is_recorded decisions) batch.begun
       told batch.taken batch.moves sent
   pub numbers : AreNumbersOf told

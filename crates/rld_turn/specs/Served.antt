@@ -29,7 +29,7 @@ pub data Served (service : ServiceSeen) (port : Port) (begun : List BooksSeen)
 -- What was served since: the datagrams taken, with the sends, the moments, and what the watcher has
 -- learned. The moves are recorded after the earlier ones, and the books are what they make of them.
 pub record HasServed (service : ServiceSeen) (port : Port) (old new : State)
-    (stood stands : Configuration → List BooksSeen → List Move → Type 0) : Type 0 where
+    (knew knows : List Told → Type 0) (stood stands : Configuration → List BooksSeen → List Move → Type 0) : Type 0 where
   pub taken : List PeerDatagram
   pub moves : List Move
   pub sent : List PeerDatagram
@@ -38,7 +38,7 @@ pub record HasServed (service : ServiceSeen) (port : Port) (old new : State)
   pub more_taken : new.taken ≡ old.taken ++ taken
   pub more_sent : new.sent ≡ old.sent ++ sent
   pub more_shown : HasShown shown old.shown new.shown
-  pub more_told : HasTold told old.told new.told
+  pub more_told : HasTold told knew knows
   pub books : new.books ≡ replay old.books moves
   pub history : (config : Configuration) (opening : List BooksSeen) (earlier : List Move)
       → stood config opening earlier → stands config opening (earlier ++ moves)

@@ -1,5 +1,5 @@
 -- What a watcher learns of datagrams, if it reports that.
-use Rattle.std.specs.Prelude.{◌≡◌, ℕ, ⊤, Bool, true, false, List, ◌++◌, count_by, Option, Some, None}
+use Rattle.std.specs.Prelude.{◌≡◌, ℕ, ⊤, ◌+◌, Bool, true, false, List, ◌++◌, count_by, Option, Some, None}
 use Rattle.rsl_accounts.specs.Configuration.{Configuration, client_number}
 use Rattle.rsl_event.specs.declared.detail.Detail.{Detail}
 use Rattle.rsl_event.specs.declared.words.Said.{Said}
@@ -41,11 +41,15 @@ told_of config origin octets detail subject end = record {
   end = end;
 }
 
--- a watcher has learned this too, if it reports what it learns
-abbrev pub HasTold : (told : List Told) → (old new : Option (List Told)) → Type 0
-HasTold told old None = ⊤
-HasTold told None (Some after) = ⊥
-HasTold told (Some before) (Some after) = after ≡ before ++ told
+-- a watcher has learned this too: what it knew before, and what it knows now
+abbrev pub HasTold : (told : List Told) → (knew knows : List Told → Type 0) → Type 0
+HasTold told knew knows = (before : List Told) → knew before → knows (before ++ told)
+
+-- a watcher has learned that a turn more began, if it reports how many have
+abbrev pub HasBegun : (old new : Option ℕ) → Type 0
+HasBegun old None = ⊤
+HasBegun None (Some after) = ⊥
+HasBegun (Some before) (Some after) = after ≡ before + 1
 
 -- this was answered, and was sent or could not be
 abbrev pub IsSentAs : Said → End → Type 0

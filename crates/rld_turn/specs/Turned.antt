@@ -97,24 +97,22 @@ pub data Turned (service : ServiceSeen) (port : Port) (moment : ℕ) (recorded :
       → IsAnsweredBy service port moment (replay begun batch) one (Some moved) reply end
       → Turned service port moment recorded begun (told ++ request_told service port one end ∷ []) (taken ++ one ∷ []) (batch ++ moved ∷ []) (sent ++ reply ∷ [])
 
--- the state at a time: the datagrams taken, the sends tried, the moments that the clock has shown
--- and what the watcher has learned, if they report that, and the books
+-- the state at a time: the datagrams taken, the sends tried, the moments that the clock has shown,
+-- if it reports them, and the books
 pub record State : Type 0 where
   pub taken : List PeerDatagram
   pub sent : List PeerDatagram
   pub shown : Option (List ℕ)
-  pub told : Option (List Told)
   pub books : List BooksSeen
 
-abbrev pub state_of : (taken sent : List PeerDatagram) → (shown : Option (List ℕ))
-    → (told : Option (List Told)) → List BooksSeen → State
-state_of taken sent shown told books =
-    record { taken = taken; sent = sent; shown = shown; told = told; books = books }
+abbrev pub state_of : (taken sent : List PeerDatagram) → (shown : Option (List ℕ)) → List BooksSeen → State
+state_of taken sent shown books =
+    record { taken = taken; sent = sent; shown = shown; books = books }
 
 -- A turn: the clock is read once, and what was taken since ended so, as the watcher has learned.
 -- The moves of the batch are recorded, all or none, after the earlier ones.
 pub record HasTurned (service : ServiceSeen) (port : Port) (ends : Ends) (old new : State)
-    (stood stands : Configuration → List BooksSeen → List Move → Type 0) : Type 0 where
+    (knew knows : List Told → Type 0) (stood stands : Configuration → List BooksSeen → List Move → Type 0) : Type 0 where
   pub taken : List PeerDatagram
   pub batch : List Move
   pub sent : List PeerDatagram
@@ -124,7 +122,7 @@ pub record HasTurned (service : ServiceSeen) (port : Port) (ends : Ends) (old ne
   pub more_taken : new.taken ≡ old.taken ++ taken
   pub more_sent : new.sent ≡ old.sent ++ sent
   pub more_shown : HasShown (moment ∷ []) old.shown new.shown
-  pub more_told : HasTold told old.told new.told
+  pub more_told : HasTold told knew knows
   pub books : new.books ≡ replay old.books (made recorded batch)
   pub history : (config : Configuration) (opening : List BooksSeen) (moves : List Move)
       → stood config opening moves → stands config opening (moves ++ made recorded batch)
@@ -138,7 +136,7 @@ pub record HasTurned (service : ServiceSeen) (port : Port) (ends : Ends) (old ne
 -- the books before the batch and the moves before its own. They are what was taken since, and what
 -- was sent for them, if the port reports that.
 pub record IsDecidedBy (service : ServiceSeen) (port : Port) (Tells : Type 0) (ends : Ends)
-    (recorded : Option RecordedSeen) (old new : State) : Type 0 where
+    (recorded : Option RecordedSeen) (old new : State) (knew knows : List Told → Type 0) : Type 0 where
   pub taken : List PeerDatagram
   pub batch : List Move
   pub sent : List PeerDatagram
@@ -147,7 +145,7 @@ pub record IsDecidedBy (service : ServiceSeen) (port : Port) (Tells : Type 0) (e
   pub more_taken : Tells → new.taken ≡ old.taken ++ taken
   pub more_sent : Tells → new.sent ≡ old.sent ++ sent
   pub more_shown : HasShown (moment ∷ []) old.shown new.shown
-  pub more_told : HasTold told old.told new.told
+  pub more_told : HasTold told knew knows
   pub whole : IsOf batch recorded
   pub turned : Turned service port moment (is_recorded recorded) (books_before recorded)
       told taken batch sent

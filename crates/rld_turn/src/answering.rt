@@ -53,6 +53,7 @@ impl Turner<'_> {
         ensures all { queue.new.items ≡ [] }
         ensures capacity { deque_capacity queue.new ≡ deque_capacity queue.old }
         ensures count { ends_of result ≡ length queue.old.items }
+        ensures contents { P.contents datagrams.new ≡ P.contents datagrams.old }
         ensures telling { P.tells datagrams.new ≡ true → P.tells datagrams.old ≡ true }
         ensures taken { P.tells datagrams.new ≡ true →
             P.taken datagrams.new ≡ P.taken datagrams.old }
@@ -60,12 +61,13 @@ impl Turner<'_> {
             P.room datagrams.new ≡ P.room datagrams.old }
         ensures down { P.tells datagrams.new ≡ true →
             P.is_down datagrams.new ≡ P.is_down datagrams.old }
+        ensures turns { W.turns watch.new ≡ W.turns watch.old }
         ensures answered { (batch : Batch (service_of self.now.present) self.now.port
             (decisions_in outcome.now) queue.old.items) →
             HasAnswered (service_of self.now.present) self.now.port (P.tells datagrams.new ≡ true)
             (decisions_in outcome.now) queue.old.items batch result
             (P.sent datagrams.old) (P.sent datagrams.new)
-            (W.told watch.old) (W.told watch.new) }
+            (W.knows watch.old) (W.knows watch.new) }
     {
         let mut ends = Ends::new();
         while let Some(entry) = queue.pop_front() {
@@ -85,6 +87,7 @@ impl Turner<'_> {
     ) -> End
         requires can { CanEnd self.now.present.config.now (decisions_in outcome.now) entry }
         ensures end { IsEndOf (decisions_in outcome.now) entry result }
+        ensures contents { P.contents datagrams.new ≡ P.contents datagrams.old }
         ensures telling { P.tells datagrams.new ≡ true → P.tells datagrams.old ≡ true }
         ensures taken { P.tells datagrams.new ≡ true →
             P.taken datagrams.new ≡ P.taken datagrams.old }
@@ -94,8 +97,9 @@ impl Turner<'_> {
             P.is_down datagrams.new ≡ P.is_down datagrams.old }
         ensures sent { P.tells datagrams.new ≡ true → P.sent datagrams.new ≡ P.sent datagrams.old
             ++ sent_by (service_of self.now.present) (decisions_in outcome.now) entry }
+        ensures turns { W.turns watch.new ≡ W.turns watch.old }
         ensures told { HasTold (told_by self.now.present.config.now entry result ∷ [])
-            (W.told watch.old) (W.told watch.new) }
+            (W.knows watch.old) (W.knows watch.new) }
     {
         match entry {
             Entry::Dropped { origin, cause } => {
@@ -125,8 +129,9 @@ impl Turner<'_> {
 
     /// Notes the end of a datagram of which nothing but its origin was kept.
     fn tell_bare<W: Watch>(&self, origin: Origin, end: End, watch: &mut W)
-        ensures { HasTold (told_of self.now.present.config.now origin [] None None end ∷ [])
-            (W.told watch.old) (W.told watch.new) }
+        ensures turns { W.turns watch.new ≡ W.turns watch.old }
+        ensures told { HasTold (told_of self.now.present.config.now origin [] None None end ∷ [])
+            (W.knows watch.old) (W.knows watch.new) }
     {
         let ended = Ended {
             origin,
@@ -142,8 +147,9 @@ impl Turner<'_> {
     /// Notes the end of a request that is not answered.
     fn tell_request<W: Watch>(&self, request: &Request, end: End, watch: &mut W)
         requires { CanAnswer self.now.present.config.now request.now }
-        ensures { HasTold (told_by_request self.now.present.config.now request.now end ∷ [])
-            (W.told watch.old) (W.told watch.new) }
+        ensures turns { W.turns watch.new ≡ W.turns watch.old }
+        ensures told { HasTold (told_by_request self.now.present.config.now request.now end ∷ [])
+            (W.knows watch.old) (W.knows watch.new) }
     {
         let ended = Ended {
             origin: request.origin,
@@ -160,9 +166,10 @@ impl Turner<'_> {
     fn tell<W: Watch>(&self, ended: Ended<'_>, watch: &mut W)
         requires { client_number self.now.present.config.now ended.origin.source.address
             ≡ ended.client }
-        ensures { HasTold (told_of self.now.present.config.now ended.entry.origin
+        ensures turns { W.turns watch.new ≡ W.turns watch.old }
+        ensures told { HasTold (told_of self.now.present.config.now ended.entry.origin
             ended.entry.octets.now ended.entry.detail ended.entry.subject ended.entry.end ∷ [])
-            (W.told watch.old) (W.told watch.new) }
+            (W.knows watch.old) (W.knows watch.new) }
     {
         watch.note(ended);
     }
@@ -178,6 +185,7 @@ impl Turner<'_> {
     ) -> End
         requires can { CanAnswer self.now.present.config.now request }
         ensures end { IsSentAs (said_to request.kind decision) result }
+        ensures contents { P.contents datagrams.new ≡ P.contents datagrams.old }
         ensures telling { P.tells datagrams.new ≡ true → P.tells datagrams.old ≡ true }
         ensures taken { P.tells datagrams.new ≡ true →
             P.taken datagrams.new ≡ P.taken datagrams.old }
@@ -187,8 +195,9 @@ impl Turner<'_> {
             P.is_down datagrams.new ≡ P.is_down datagrams.old }
         ensures sent { P.tells datagrams.new ≡ true → P.sent datagrams.new ≡ P.sent datagrams.old
             ++ reply_of (service_of self.now.present) request decision ∷ [] }
+        ensures turns { W.turns watch.new ≡ W.turns watch.old }
         ensures told { HasTold (told_by_request self.now.present.config.now request result ∷ [])
-            (W.told watch.old) (W.told watch.new) }
+            (W.knows watch.old) (W.knows watch.new) }
     {
         let Request {
             origin,
@@ -234,6 +243,7 @@ impl Turner<'_> {
 /// Sends an answer with this word by the port, and gives how that ended.
 fn hand_over<P: PeerPort>(datagrams: &mut P, reply: &[u8], to: SocketAddr, said: Said) -> End
     ensures end { IsSentAs said result }
+    ensures contents { P.contents datagrams.new ≡ P.contents datagrams.old }
     ensures telling { P.tells datagrams.new ≡ true → P.tells datagrams.old ≡ true }
     ensures taken { P.tells datagrams.new ≡ true → P.taken datagrams.new ≡ P.taken datagrams.old }
     ensures room { P.tells datagrams.new ≡ true → P.room datagrams.new ≡ P.room datagrams.old }

@@ -35,6 +35,7 @@ impl Turner<'_> {
         requires room { 64 ≤ deque_capacity queue.old }
         ensures capacity { deque_capacity queue.new ≡ deque_capacity queue.old }
         ensures few { length queue.new.items ≤ 64 }
+        ensures contents { P.contents datagrams.new ≡ P.contents datagrams.old }
         ensures telling { P.tells datagrams.new ≡ true → P.tells datagrams.old ≡ true }
         ensures gathered { HasGathered (service_of self.now.present) self.now.port
             moment (P.tells datagrams.new ≡ true)

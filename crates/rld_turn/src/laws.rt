@@ -12,18 +12,24 @@ ghost use Rattle.rld_turn.specs.Served.{HasServed};
 ghost use Rattle.rld_turn.specs.Turned.{HasTurned, State};
 ghost use Rattle.rld_turn.specs.declared.ends.Ends.{Ends};
 
+use crate::watch::Watch;
 use rld_log::Log;
 use rld_store::{Recorder, Store};
 
-/// Turns one after the other serve, given the recorder before the first, between them and after the
-/// last: before the first turn nothing is served, and each turn adds what it served.
-pub fn turns_serve<R: Recorder>(begun: &R, between: &R, ended: &R)
+/// Turns one after the other serve, given the recorder and the watcher before the first, between
+/// them and after the last: before the first turn nothing is served, and each turn adds what it
+/// served.
+pub fn turns_serve<R: Recorder, W: Watch>(begun: &(R, W), between: &(R, W), ended: &(R, W))
     ensures none { (service : ServiceSeen) (port : OnePort) (state : State) →
-        HasServed service port state state (R.stands begun.now) (R.stands begun.now) }
+        HasServed service port state state (W.knows begun.now.1) (W.knows begun.now.1)
+        (R.stands begun.now.0) (R.stands begun.now.0) }
     ensures more { (service : ServiceSeen) (port : OnePort) (ends : Ends) (old mid new : State) →
-        HasServed service port old mid (R.stands begun.now) (R.stands between.now) →
-        HasTurned service port ends mid new (R.stands between.now) (R.stands ended.now) →
-        HasServed service port old new (R.stands begun.now) (R.stands ended.now) }
+        HasServed service port old mid (W.knows begun.now.1) (W.knows between.now.1)
+        (R.stands begun.now.0) (R.stands between.now.0) →
+        HasTurned service port ends mid new (W.knows between.now.1) (W.knows ended.now.1)
+        (R.stands between.now.0) (R.stands ended.now.0) →
+        HasServed service port old new (W.knows begun.now.1) (W.knows ended.now.1)
+        (R.stands begun.now.0) (R.stands ended.now.0) }
 {}
 
 /// A crash loses nothing that turns have recorded in a store: what it leaves of the log has the

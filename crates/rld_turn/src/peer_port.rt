@@ -15,7 +15,7 @@ pub struct PeerDatagram {
 ///
 /// A port in memory also reports to contracts which datagrams it gave, which sends were tried, the
 /// least room, in octets, of any `receive`, and whether the last `receive` failed, as long as
-/// `tells` is true.
+/// `tells` is true; and which datagrams it was made with.
 pub trait PeerPort {
     ghost use Rattle.std.specs.Prelude.{◌≡◌, ◌≤◌, ℕ, min, Bool, true, false, List, [], ◌∷◌, ◌++◌, length, IfOk, IfSome, is_err};
     ghost use Rattle.rld_turn.specs.Present.{peer_datagram};
@@ -23,6 +23,8 @@ pub trait PeerPort {
     ghost use Rattle.rld_turn.specs.declared.peer_port.PeerDatagram.{PeerDatagram as OneDatagram};
 
     ghost tells: { Self → Bool } = { λ _. false };
+
+    ghost contents: { Self → List OneDatagram } = { λ _. [] };
 
     ghost taken: { Self → List OneDatagram } = { λ _. [] };
 
@@ -38,6 +40,7 @@ pub trait PeerPort {
     fn receive(&mut self, buffer: &mut [u8]) -> Result<Option<(usize, SocketAddr)>, PortFault>
         ensures within { IfOk result (λ received. IfSome received (λ found.
             found.0 ≤ length buffer.new)) }
+        ensures contents { contents self.new ≡ contents self.old }
         ensures telling { tells self.new ≡ true → tells self.old ≡ true }
         ensures taken { tells self.new ≡ true →
             taken self.new ≡ taken self.old ++ taken_by result buffer.new }
@@ -47,6 +50,7 @@ pub trait PeerPort {
 
     /// Sends these octets to a peer. On a fault nothing is known of what was sent.
     fn send(&mut self, octets: &[u8], to: SocketAddr) -> Result<(), PortFault>
+        ensures contents { contents self.new ≡ contents self.old }
         ensures telling { tells self.new ≡ true → tells self.old ≡ true }
         ensures taken { tells self.new ≡ true → taken self.new ≡ taken self.old }
         ensures sent { tells self.new ≡ true →

@@ -4,6 +4,7 @@ ghost use Rattle.std.specs.VecDeque.{deque_capacity};
 ghost use Rattle.rld_turn.specs.Counted.{ends_of};
 ghost use Rattle.rld_turn.specs.Present.{service_of};
 ghost use Rattle.rld_turn.specs.Recorded.{is_down, is_ended};
+ghost use Rattle.rld_turn.specs.Told.{HasBegun};
 ghost use Rattle.rld_turn.specs.Turned.{HasTurned, IsDecidedBy, state_of};
 
 use crate::ends::Turn;
@@ -79,21 +80,24 @@ impl Receiver {
     ) -> Turn
         ensures same { self.new.port ≡ self.old.port }
         ensures few { ends_of result.ends ≤ 64 }
+        ensures begun { HasBegun (W.turns watch.old) (W.turns watch.new) }
+        ensures contents { P.contents datagrams.new ≡ P.contents datagrams.old }
         ensures port_tells { P.tells datagrams.new ≡ true → P.tells datagrams.old ≡ true }
         ensures recorder_tells { R.tells recorder.new ≡ true → R.tells recorder.old ≡ true }
         ensures turned { P.tells datagrams.new ≡ true → R.tells recorder.new ≡ true →
             HasTurned (service_of present.now) self.old.port result.ends
-            (state_of (P.taken datagrams.old) (P.sent datagrams.old) (C.shown clock.old) (W.told watch.old) (R.books recorder.old))
-            (state_of (P.taken datagrams.new) (P.sent datagrams.new) (C.shown clock.new) (W.told watch.new) (R.books recorder.new))
-            (R.stands recorder.old) (R.stands recorder.new) }
+            (state_of (P.taken datagrams.old) (P.sent datagrams.old) (C.shown clock.old) (R.books recorder.old))
+            (state_of (P.taken datagrams.new) (P.sent datagrams.new) (C.shown clock.new) (R.books recorder.new))
+            (W.knows watch.old) (W.knows watch.new) (R.stands recorder.old) (R.stands recorder.new) }
 
         // Whatever the port and the recorder are: a datagram that is answered with a decision has
         // its move in the batch that the turn gives as recorded, and the decision is the one on
         // that move. Over a port that tells, these are its datagrams and answers.
         ensures decided { IsDecidedBy (service_of present.now) self.old.port (P.tells datagrams.new ≡ true)
             result.ends result.recorded
-            (state_of (P.taken datagrams.old) (P.sent datagrams.old) (C.shown clock.old) (W.told watch.old) (R.books recorder.old))
-            (state_of (P.taken datagrams.new) (P.sent datagrams.new) (C.shown clock.new) (W.told watch.new) (R.books recorder.new)) }
+            (state_of (P.taken datagrams.old) (P.sent datagrams.old) (C.shown clock.old) (R.books recorder.old))
+            (state_of (P.taken datagrams.new) (P.sent datagrams.new) (C.shown clock.new) (R.books recorder.new))
+            (W.knows watch.old) (W.knows watch.new) }
 
         // What was recorded is of the era of these accounts, whatever the recorder is.
         ensures era { IfSome result.recorded (λ recorded. recorded.era ≡ present.now.era) }

@@ -24,22 +24,26 @@ pub struct Ended<'a> {
 
 /// Learns how each datagram ended, such as counters or a log.
 ///
-/// A watcher in memory also reports to contracts what it has learned, in order. Any other reports
-/// nothing.
+/// A watcher in memory also reports to contracts how many turns have begun, and can say of a list
+/// whether it has learned this of datagrams, in order. Any other says nothing.
 pub trait Watch {
-    ghost use Rattle.std.specs.Prelude.{◌≡◌, List, [], ◌∷◌, Option, None};
-    ghost use Rattle.rld_turn.specs.Told.{HasTold, Told as OneTold, told_as};
+    ghost use Rattle.std.specs.Prelude.{◌≡◌, ℕ, List, [], ◌∷◌, Option, None};
+    ghost use Rattle.rld_turn.specs.Told.{HasBegun, HasTold, Told as OneTold, told_as};
 
-    ghost told: { Self → Option (List OneTold) } = { λ _. None };
+    ghost turns: { Self → Option ℕ } = { λ _. None };
+
+    ghost knows: { Self → List OneTold → Type 0 } = { λ _ _. Unit {0} };
 
     /// Notes that a turn begins. A receiver calls it once in each turn, before it reads its clock.
     fn begin(&mut self)
-        ensures told { told self.new ≡ told self.old };
+        ensures begun { HasBegun (turns self.old) (turns self.new) }
+        ensures told { (told : List OneTold) → knows self.old told → knows self.new told };
 
     /// Notes how a datagram has ended. A receiver calls it once for each datagram that it took, in
     /// order, after the answer was sent.
     fn note(&mut self, ended: Ended<'_>)
-        ensures told { HasTold (told_as ended.entry ∷ []) (told self.old) (told self.new) };
+        ensures turns { turns self.new ≡ turns self.old }
+        ensures told { HasTold (told_as ended.entry ∷ []) (knows self.old) (knows self.new) };
 }
 
 /// A watcher that notes nothing.

@@ -5,6 +5,5 @@ use Rattle.rld_serve.proofs.asking.answers_of.Given as goal
 
 abbrev pub invariant-loop-one : goal.invariant-loop-one
 invariant-loop-one l =
-    answers_told l.noted (map (λ reply. reply.items) l.initial.replies.items)
-    ≡ map told_in l.answers.items
-    ++ answers_told (drop l.one-index l.noted) (map (λ reply. reply.items) l.replies.items)
+    answers_told l.noted l.initial.replies.items
+    ≡ map told_in l.answers.items ++ answers_told (drop l.one-index l.noted) l.replies.items

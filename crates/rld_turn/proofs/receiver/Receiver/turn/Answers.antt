@@ -6,7 +6,7 @@ use Rattle.rld_turn.specs.Present.{service_of}
 use Rattle.rld_turn.proofs.Deciding.{has_decided, same_recorded}
 use Rattle.rld_store.specs.Recorded.{RecordedSeen}
 use Rattle.rld_turn.specs.Recorded.{books_before, decisions_in, is_down, is_recorded, recorded_in}
-use Rattle.rld_turn.specs.Told.{HasTold, Told}
+use Rattle.rld_turn.specs.Told.{HasBegun}
 use Rattle.rld_turn.specs.Turned.{IsDecidedBy, Turned, state_of}
 use Rattle.rld_turn.specs.declared.peer_port.PeerDatagram.{PeerDatagram}
 use Rattle.rld_turn.proofs.receiver.Receiver.turn.Goals as goal
@@ -26,6 +26,10 @@ pub returns-clause-ended : goal.returns-clause-ended
 returns-clause-ended g c = λ going up.
     c.record-outcome.ensures.over going
     ∙ same_ended c.record-outcome.result c.gather-taking.result c.ending.result c.ending.ensures c.gather-taking.ensures.goes_on up
+
+pub returns-clause-begun : goal.returns-clause-begun
+returns-clause-begun g c =
+    subst (HasBegun (g.W.Watch.turns c.args.watch.now)) (sym c.answer_each-ends.ensures.turns) c.begin.ensures.begun
 
 pub returns-clause-turned : goal.returns-clause-turned
 returns-clause-turned g c = λ told recorder_told.
@@ -50,7 +54,7 @@ returns-clause-turned g c = λ told recorder_told.
       more_taken = c.answer_each-ends.ensures.taken told ∙ gathered.told mid;
       more_sent = answered.more_sent told ∙ ap (λ (t : List PeerDatagram). t ++ answered.sent) (c.gather-taking.ensures.sent mid);
       more_shown = c.now-moment.ensures.shown;
-      more_told = subst (λ (t : Option (List Told)). HasTold answered.told t (g.W.Watch.told c.answer_each-ends.new.watch)) c.begin.ensures.told answered.more_told;
+      more_told = λ before knew. answered.more_told before (c.begin.ensures.told before knew);
       books = recorded.books;
       history = c.record-outcome.ensures.stands recorder_told;
       turned = answered.turned;
@@ -76,8 +80,9 @@ returns-clause-decided g c =
     subst
     (λ (r : Option RecordedSeen).
     IsDecidedBy service c.args.self.now.port (g.P.PeerPort.tells c.answer_each-ends.new.datagrams ≡ true) c.answer_each-ends.result r
-    (state_of (g.P.PeerPort.taken c.args.datagrams.now) (g.P.PeerPort.sent c.args.datagrams.now) (g.C.Clock.shown c.args.clock.now) (g.W.Watch.told c.args.watch.now) (g.R.Recorder.books c.args.recorder.now))
-    (state_of (g.P.PeerPort.taken c.answer_each-ends.new.datagrams) (g.P.PeerPort.sent c.answer_each-ends.new.datagrams) (g.C.Clock.shown c.now-moment.new.self) (g.W.Watch.told c.answer_each-ends.new.watch) (g.R.Recorder.books c.record-outcome.new.recorder)))
+    (state_of (g.P.PeerPort.taken c.args.datagrams.now) (g.P.PeerPort.sent c.args.datagrams.now) (g.C.Clock.shown c.args.clock.now) (g.R.Recorder.books c.args.recorder.now))
+    (state_of (g.P.PeerPort.taken c.answer_each-ends.new.datagrams) (g.P.PeerPort.sent c.answer_each-ends.new.datagrams) (g.C.Clock.shown c.now-moment.new.self) (g.R.Recorder.books c.record-outcome.new.recorder))
+    (g.W.Watch.knows c.args.watch.now) (g.W.Watch.knows c.answer_each-ends.new.watch))
     (sym c.into_recorded.ensures) (record {
       taken = gathered.taken;
       batch = moves;
@@ -87,7 +92,7 @@ returns-clause-decided g c =
       more_taken = λ told. c.answer_each-ends.ensures.taken told ∙ gathered.told (mid told);
       more_sent = λ told. answered.more_sent told ∙ ap (λ (t : List PeerDatagram). t ++ answered.sent) (c.gather-taking.ensures.sent (mid told));
       more_shown = c.now-moment.ensures.shown;
-      more_told = subst (λ (t : Option (List Told)). HasTold answered.told t (g.W.Watch.told c.answer_each-ends.new.watch)) c.begin.ensures.told answered.more_told;
+      more_told = λ before knew. answered.more_told before (c.begin.ensures.told before knew);
       whole = c.record-outcome.ensures.batch;
       turned =
           subst (λ (b : Bool). Turned service c.args.self.now.port c.now-moment.result b before answered.told gathered.taken moves answered.sent)

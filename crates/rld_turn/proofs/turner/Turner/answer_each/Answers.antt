@@ -14,11 +14,13 @@ loop-entry-init g c = record {
   capacity = refl;
   can = c.requires.can;
   count = ap (λ e. ends_of e + length c.args.queue.now.items) c.new-ends.ensures ∙ omega arith;
+  contents = refl;
   telling = λ told. told;
   taken = λ told. refl;
   room = λ told. refl;
   down = λ told. refl;
-  answered = λ batch. none_answered _ _ (g.P.PeerPort.tells c.args.datagrams.now ≡ true) _ _ batch c.new-ends.result (g.P.PeerPort.sent c.args.datagrams.now) (g.W.Watch.told c.args.watch.now) c.new-ends.ensures;
+  turns = refl;
+  answered = λ batch. none_answered _ _ (g.P.PeerPort.tells c.args.datagrams.now ≡ true) _ _ batch c.new-ends.result (g.P.PeerPort.sent c.args.datagrams.now) (g.W.Watch.knows c.args.watch.now) c.new-ends.ensures;
 }
 
 pub loop-entry-preserved : goal.loop-entry-preserved
@@ -34,15 +36,17 @@ loop-entry-preserved g c =
           let now = ap ends_of c.count.ensures in
           let long = ap length first in
           omega (arith, all, now, long, c.loop-entry.invariant.count);
+      contents = c.end.ensures.contents ∙ c.loop-entry.invariant.contents;
       telling = λ told. c.loop-entry.invariant.telling (c.end.ensures.telling told);
       taken = λ told. c.end.ensures.taken told ∙ c.loop-entry.invariant.taken (c.end.ensures.telling told);
       room = λ told. c.end.ensures.room told ∙ c.loop-entry.invariant.room (c.end.ensures.telling told);
       down = λ told. c.end.ensures.down told ∙ c.loop-entry.invariant.down (c.end.ensures.telling told);
+      turns = c.end.ensures.turns ∙ c.loop-entry.invariant.turns;
       answered = λ batch.
           one_answered service c.args.self.now.port (g.P.PeerPort.tells c.loop-entry.datagrams ≡ true) (g.P.PeerPort.tells c.end.new.datagrams ≡ true) batch.moment decisions batch.begun batch.taken batch.moves
           c.in-Some.entry c.loop-entry.queue.items c.pop_front.new.self.items c.end.result c.loop-entry.ends c.count.new.self
           (g.P.PeerPort.sent c.args.datagrams.now) (g.P.PeerPort.sent c.loop-entry.datagrams) (g.P.PeerPort.sent c.end.new.datagrams)
-          (g.W.Watch.told c.args.watch.now) (g.W.Watch.told c.loop-entry.watch) (g.W.Watch.told c.end.new.watch)
+          (g.W.Watch.knows c.args.watch.now) (g.W.Watch.knows c.loop-entry.watch) (g.W.Watch.knows c.end.new.watch)
           first batch.decided c.end.ensures.end c.count.ensures c.end.ensures.telling c.end.ensures.sent c.end.ensures.told
           (c.loop-entry.invariant.answered batch);
     }
@@ -52,5 +56,5 @@ returns-clause-answered g c = λ batch.
     let none : c.loop-entry.queue.items ≡ [] = nil_from_length c.loop-entry.queue.items (omega (arith, c.in_default.ensures.cases.0)) in
     all_answered _ _ _ _ _ batch c.loop-entry.queue.items c.loop-entry.ends
     (g.P.PeerPort.sent c.args.datagrams.now) (g.P.PeerPort.sent c.loop-entry.datagrams)
-    (g.W.Watch.told c.args.watch.now) (g.W.Watch.told c.loop-entry.watch)
+    (g.W.Watch.knows c.args.watch.now) (g.W.Watch.knows c.loop-entry.watch)
     none (c.loop-entry.invariant.answered batch)

@@ -14,6 +14,7 @@ invariant-loop-entry g l = record {
   capacity : deque_capacity l.queue ≡ deque_capacity l.fn.queue;
   can : AllByRecursion (CanEnd l.self.present.config.now (decisions_in l.outcome)) l.queue.items;
   count : ends_of l.ends + length l.queue.items ≡ length l.fn.queue.items;
+  contents : g.P.PeerPort.contents l.datagrams ≡ g.P.PeerPort.contents l.fn.datagrams;
   telling : g.P.PeerPort.tells l.datagrams ≡ true → g.P.PeerPort.tells l.fn.datagrams ≡ true;
   taken : g.P.PeerPort.tells l.datagrams ≡ true
       → g.P.PeerPort.taken l.datagrams ≡ g.P.PeerPort.taken l.fn.datagrams;
@@ -21,12 +22,13 @@ invariant-loop-entry g l = record {
       → g.P.PeerPort.room l.datagrams ≡ g.P.PeerPort.room l.fn.datagrams;
   down : g.P.PeerPort.tells l.datagrams ≡ true
       → g.P.PeerPort.is_down l.datagrams ≡ g.P.PeerPort.is_down l.fn.datagrams;
+  turns : g.W.Watch.turns l.watch ≡ g.W.Watch.turns l.fn.watch;
   answered : (batch : Batch (service_of l.self.present) l.self.port
       (decisions_in l.outcome) l.fn.queue.items)
       → AreAnswered (service_of l.self.present) l.self.port (g.P.PeerPort.tells l.datagrams ≡ true) batch.moment
       (decisions_in l.outcome) batch.begun batch.taken batch.moves l.queue.items l.ends
       (g.P.PeerPort.sent l.fn.datagrams) (g.P.PeerPort.sent l.datagrams)
-      (g.W.Watch.told l.fn.watch) (g.W.Watch.told l.watch);
+      (g.W.Watch.knows l.fn.watch) (g.W.Watch.knows l.watch);
 }
 
 abbrev pub decreases-loop-entry : goal.decreases-loop-entry

@@ -11,6 +11,7 @@ pub loop-init : goal.loop-init
 loop-init g c = record {
   capacity = refl;
   entries = ap length c.requires.no_entries;
+  contents = refl;
   telling = λ told. told;
   gathered = none_gathered _ _ _ _ _ _ _ c.requires.no_entries c.requires.no_moves;
   sent = λ told. refl;
@@ -28,6 +29,7 @@ loop-preserved g c =
       entries =
           let long = ap length c.push_back_reserved.ensures.items in
           omega (arith, c.loop.invariant.entries, long, length-append c.loop.queue.items (c.enter-entry.result ∷ []));
+      contents = c.receive.ensures.contents ∙ c.loop.invariant.contents;
       telling = λ t. c.loop.invariant.telling (told t);
       gathered =
           gathered_more (service_of c.args.self.now.present) c.args.self.now.port c.args.moment _ _

@@ -8,6 +8,7 @@ abbrev pub invariant-loop : goal.invariant-loop
 invariant-loop g l = record {
   capacity : deque_capacity l.queue ≡ deque_capacity l.fn.queue;
   entries : length l.queue.items ≡ l.counter;
+  contents : g.P.PeerPort.contents l.datagrams ≡ g.P.PeerPort.contents l.fn.datagrams;
   telling : g.P.PeerPort.tells l.datagrams ≡ true → g.P.PeerPort.tells l.fn.datagrams ≡ true;
   gathered : HasGathered (service_of l.self.present) l.self.port l.moment
       (g.P.PeerPort.tells l.datagrams ≡ true)
