@@ -122,7 +122,7 @@ pub are_answers : (config : Configuration) (networks : List Network) (boot era :
     → HasTurnedWith config networks boot era Auth Tells ends recorded old new knew (HasNoted is_whole noted)
     → knew [] → Tells → old.taken ≡ [] → old.sent ≡ [] → new.taken ≡ take n (datagrams_of peer requests)
     → AreAnswers (noted_if is_whole noted) new.sent answers
-    → (answers ≡ []) ⊎ AreAnswersTo config networks boot era client asks answers
+    → (answers ≡ []) ⊎ AreAnswersTo config networks boot era client (noted_if is_whole noted) asks answers
 are_answers config networks boot era client asks answers requests peer n Tells ends recorded old new knew false noted of_asks of_client turn knows tells taken sent given (inl none) =
     inl none
 are_answers config networks boot era client asks answers requests peer n Tells ends recorded old new knew false noted of_asks of_client turn knows tells taken sent given (inr said) =
@@ -153,8 +153,8 @@ are_answers config networks boot era client asks answers requests peer n Tells e
       turned =
           subst (λ (l : List PeerDatagram). Turned turn.service Auth decided.moment (is_recorded recorded) (books_before recorded) decided.told l decided.batch decided.sent)
           first decided.turned;
-      are = said ∙ ap (λ (l : List Noted). answers_told l new.sent) told
-          ∙ ap (λ (l : List PeerDatagram). answers_told (map noted_in decided.told) l) replies;
+      kept = told;
+      are = said ∙ ap (λ (l : List PeerDatagram). answers_told noted l) replies;
     })
 
 -- the same, where the replies were kept or one of them was lost
@@ -169,7 +169,7 @@ pub told_answers : {D : Type 0} → (items : D → List PeerDatagram) → (confi
     → IfSome found (λ replies. (replies ≡ kept) × (tells ≡ true))
     → IfNone found (answers ≡ [])
     → IfSome found (λ replies. AreAnswers (noted_if is_whole noted) (items replies) answers)
-    → (answers ≡ []) ⊎ AreAnswersTo config networks boot era client asks answers
+    → (answers ≡ []) ⊎ AreAnswersTo config networks boot era client (noted_if is_whole noted) asks answers
 told_answers items config networks boot era client asks answers requests peer n port ends recorded old new knew is_whole tells noted kept None of_asks of_client auth turn knows taken sent given last whole lost said =
     inl lost
 told_answers items config networks boot era client asks answers requests peer n port ends recorded old new knew is_whole tells noted kept (Some replies) of_asks of_client auth turn knows taken sent given last whole lost said =

@@ -66,10 +66,10 @@ abbrev pub AreAnswers : List Noted → (replies : List PeerDatagram) → List An
 AreAnswers noted replies answers = (answers ≡ []) ⊎ (map told_in answers ≡ answers_told noted replies)
 
 -- Answers to the first of these asks, in their order, which come from this client: their requests were taken in one
--- turn with these accounts, networks and boot number, which was recorded in this era or not at all. Each answer says
--- how its own request ended, with its own reply.
+-- turn with these accounts, networks and boot number, which was recorded in this era or not at all. This is kept of how
+-- they ended. Each answer says how its own request ended, with its own reply.
 pub record AreAnswersTo (config : Configuration) (networks : List Network) (boot era : ℕ) (client : List ℕ)
-    (asks : List AskForm) (answers : List Answer) : Type 0 where
+    (noted : List Noted) (asks : List AskForm) (answers : List Answer) : Type 0 where
   pub service : ServiceSeen
   pub requests : List (List ℕ)
   pub peer : SocketAddr
@@ -85,12 +85,13 @@ pub record AreAnswersTo (config : Configuration) (networks : List Network) (boot
   pub whole : IsOf batch recorded
   pub turned : Turned service Auth moment (is_recorded recorded) (books_before recorded)
       told (datagrams_of peer requests) batch replies
-  pub are : map told_in answers ≡ answers_told (map noted_in told) replies
+  pub kept : noted ≡ map noted_in told
+  pub are : map told_in answers ≡ answers_told noted replies
 
 -- the same, with whatever accounts are present; or no answers, where memory is refused or no client has the address
-pub record AreAnswered (networks : List Network) (client : List ℕ) (asks : List AskForm) (answers : List Answer)
-    : Type 0 where
+pub record AreAnswered (networks : List Network) (client : List ℕ) (noted : List Noted) (asks : List AskForm)
+    (answers : List Answer) : Type 0 where
   pub config : Configuration
   pub boot : ℕ
   pub era : ℕ
-  pub are : (answers ≡ []) ⊎ AreAnswersTo config networks boot era client asks answers
+  pub are : (answers ≡ []) ⊎ AreAnswersTo config networks boot era client noted asks answers

@@ -17,6 +17,7 @@ ghost use Rattle.rld_serve.specs.Asking.{
   told_in,
 };
 ghost use Rattle.rld_serve.specs.Following.{IsFaultOf};
+ghost use Rattle.rld_serve.specs.Noting.{noted_if};
 ghost use Rattle.rld_serve.specs.declared.ask_fault.AskFault.TheVariants.{NoMemory as refused};
 ghost use Rattle.rsl_event.specs.declared.meaning.Port.TheVariants.{Auth};
 
@@ -188,7 +189,8 @@ where
             IfErr result (IsFaultOf place.new.recorder.has_ended) }
         ensures client { place.new.client ≡ place.old.client }
         ensures answered { IfOk result (λ answers.
-            AreAnswered self.now.plan.networks.now place.old.client asks.now answers.items) }
+            AreAnswered self.now.plan.networks.now place.old.client
+            (noted_if place.new.watch.is_whole place.new.watch.noted.items) asks.now answers.items) }
     {
         place.watch.forget();
         let current = self.current.read(self.rt);
@@ -211,7 +213,8 @@ where
         ensures client { place.new.client ≡ place.old.client }
         ensures answered { IfOk result (λ answers. (answers.items ≡ [])
             ⊎ AreAnswersTo (arc_value current.now.config) self.now.plan.networks.now
-            current.now.boot current.now.header.era place.old.client asks.now answers.items) }
+            current.now.boot current.now.header.era place.old.client
+            (noted_if place.new.watch.is_whole place.new.watch.noted.items) asks.now answers.items) }
     {
         let Ok(mut port) = AskPort::new(self.alloc, &*current.config, place.client, asks) else {
             return Ok(Vec::new(self.alloc));
@@ -269,7 +272,8 @@ where
     /// What an operator is told of an ask, which has a turn of its own at this place.
     fn told_at(&self, place: &mut Place<'_, 'a, R>, ask: AskForm) -> Result<Vec<u8>, AskFault>
         ensures told { IfOk result (λ octets.
-            TellsFirst self.now.plan.networks.now place.old.client ask octets.items) }
+            TellsFirst self.now.plan.networks.now place.old.client
+            (noted_if place.new.watch.is_whole place.new.watch.noted.items) ask octets.items) }
         ensures fault { IfErr result IsUnasked }
     {
         let asks = vec![in self.alloc; ask]?;
