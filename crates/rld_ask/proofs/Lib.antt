@@ -1,2 +1,4 @@
+pub mod Gathering
 pub mod Fronts
 pub mod Requests
+pub mod Shown

@@ -1,6 +1,10 @@
+pub mod Asking
 pub mod Form
+pub mod Heads
 pub mod Outcome
 pub mod Reply
 pub mod Refusal
 pub mod Request
+pub mod Response
+pub mod Sending
 pub mod Token

@@ -1,5 +1,15 @@
 //! A connection over which asks come, one after the other.
 
+ghost use Rattle.std.specs.Prelude.{◌≡◌, ◌++◌, IfOk, OnOk, option_copied};
+ghost use Rattle.rld_ask.specs.Asking.{has_ended, is_waiting};
+ghost use Rattle.rld_ask.specs.Form.{form_of};
+ghost use Rattle.rld_ask.specs.Outcome.{status_of};
+ghost use Rattle.rld_ask.specs.Response.{after_head, body_octets, head_octets, response_octets};
+ghost use Rattle.rld_ask.specs.Sending.{GivesAsk, IsAsk, IsAsking, IsRestOf, IsTold, ends_so, sent_for, status_told, text_of, text_told};
+ghost use Rattle.rld_ask.specs.declared.ask_connection.Phase.TheVariants.{Ends, Waits};
+ghost use Rattle.rld_ask.specs.declared.ask_connection.Turn.TheVariants.{Asks as asks};
+ghost use Rattle.rld_ask.specs.declared.form.AskForm.{AskForm as OneAsk};
+
 use crate::asked::Answer;
 use crate::fault::FormFault;
 use crate::form::AskForm;
@@ -7,13 +17,14 @@ use crate::outcome::Outcome;
 use crate::refusal::Refusal;
 use crate::refused::Refused;
 use crate::reply::reply_json;
-use crate::status::{closing_text, reason_of};
+use crate::spans::covered;
+use crate::status::{closing_text, fields_of, reason_of};
 use crate::token::Token;
 use bytes::{Buf, BufMut, BytesMut};
-use http1::{BodySize, Event, Header, Limits, Server, WriteError};
-use httparse::spans::{EMPTY_HEADER_SPAN, HeaderSpan, RequestSpans, Span};
+use http1::{BodySize, Event, Limits, Server, WriteError};
+use httparse::spans::EMPTY_HEADER_SPAN;
 use rld_values::push_text;
-use std::alloc::Global;
+use std::alloc::{AllocError, Global};
 use std::io::{self, ErrorKind, Read, Write};
 use std::net::{Shutdown, TcpStream};
 
@@ -64,6 +75,8 @@ enum Phase {
     Closes,
     /// It lets go what still comes, until the other side is done too.
     Discards,
+    /// It is done with, and to be closed.
+    Ends,
 }
 
 /// A connection over which asks come.
@@ -115,19 +128,26 @@ impl AskConnection {
     }
 
     /// Whether an ask of it waits for its answer.
-    pub(crate) fn is_waiting(&self) -> bool {
+    pub(crate) fn is_waiting(&self) -> bool
+        ensures { result ≡ is_waiting self.now.phase }
+    {
         matches!(self.phase, Phase::Waits)
     }
 
     /// How many of its requests were refused since this was asked last.
-    pub(crate) fn take_refused(&mut self) -> Refused {
+    pub(crate) fn take_refused(&mut self) -> Refused
+        ensures { self.new ≡ record self.old { refused = self.new.refused } }
+    {
         let refused = self.refused;
         self.refused = Refused::none();
         refused
     }
 
     /// Does what can be done without waiting, for some moves at most.
-    pub(crate) fn take_turn(&mut self, token: &Token, now: u64) -> Turn {
+    pub(crate) fn take_turn(&mut self, token: &Token, now: u64) -> Turn
+        ensures kept { (self.old.phase ≡ Waits → ⊥) → self.new.phase ≡ Waits → IsAsk result }
+        ensures asks { (ask : OneAsk) → result ≡ asks ask → IsAsking self.new ask }
+    {
         for _ in 0..MOVES {
             match self.take_step(token, now) {
                 Ok(Turn::GoesOn) => {}
@@ -140,7 +160,10 @@ impl AskConnection {
     }
 
     /// Writes what is pending, or reads on.
-    fn take_step(&mut self, token: &Token, now: u64) -> io::Result<Turn> {
+    fn take_step(&mut self, token: &Token, now: u64) -> io::Result<Turn>
+        ensures kept { (self.old.phase ≡ Waits → ⊥) → self.new.phase ≡ Waits → GivesAsk result }
+        ensures asks { IfOk result (λ turn. (ask : OneAsk) → turn ≡ asks ask → IsAsking self.new ask) }
+    {
         if !self.output.is_empty() {
             let mut stream = &self.stream;
             let sent = stream.write(self.output.as_slice())?;
@@ -159,12 +182,16 @@ impl AskConnection {
                 Ok(Turn::GoesOn)
             }
             Phase::Discards => self.discard(),
+            Phase::Ends => Ok(Turn::Leaves),
         }
     }
 
     /// Reads what comes after the last request, and lets it go: where a socket is closed before that, the
     /// answer may be lost.
-    fn discard(&mut self) -> io::Result<Turn> {
+    fn discard(&mut self) -> io::Result<Turn>
+        ensures kept { (self.old.phase ≡ Waits → ⊥) → self.new.phase ≡ Waits → GivesAsk result }
+        ensures asks { IfOk result (λ turn. (ask : OneAsk) → turn ≡ asks ask → ⊥) }
+    {
         let mut octets = [0u8; 1_024];
         let mut stream = &self.stream;
         match stream.read(&mut octets)? {
@@ -174,7 +201,10 @@ impl AskConnection {
     }
 
     /// Takes one event from what was read, or reads more.
-    fn read_event(&mut self, token: &Token, now: u64) -> io::Result<Turn> {
+    fn read_event(&mut self, token: &Token, now: u64) -> io::Result<Turn>
+        ensures kept { (self.old.phase ≡ Waits → ⊥) → self.new.phase ≡ Waits → GivesAsk result }
+        ensures asks { IfOk result (λ turn. (ask : OneAsk) → turn ≡ asks ask → IsAsking self.new ask) }
+    {
         let mut spans = [EMPTY_HEADER_SPAN; MAX_FIELDS];
         let read = match self.server.read(self.input.as_slice(), &mut spans) {
             Ok(read) => read,
@@ -183,7 +213,7 @@ impl AskConnection {
         match read.event {
             Event::NeedMore => return self.read_more(now),
             Event::Head(head) => {
-                self.refusal = refusal_of(token, self.input.as_slice(), &head, &spans);
+                self.refusal = Refusal::of(token, self.input.as_slice(), &head, &spans);
                 if self.server.has_codings() {
                     return self.close_with(501);
                 }
@@ -214,13 +244,18 @@ impl AskConnection {
     }
 
     /// Lets go of octets that were read.
-    fn consume(&mut self, count: usize) {
+    fn consume(&mut self, count: usize)
+        ensures { self.new.phase ≡ self.old.phase }
+    {
         let count = count.min(self.input.len());
         self.input.advance(count);
     }
 
     /// Reads octets, if some are there.
-    fn read_more(&mut self, now: u64) -> io::Result<Turn> {
+    fn read_more(&mut self, now: u64) -> io::Result<Turn>
+        ensures kept { (self.old.phase ≡ Waits → ⊥) → self.new.phase ≡ Waits → GivesAsk result }
+        ensures asks { IfOk result (λ turn. (ask : OneAsk) → turn ≡ asks ask → ⊥) }
+    {
         self.input.reserve(READ_LEN)?;
         let mut stream = &self.stream;
         if self.input.read_from(&mut stream)? == 0 {
@@ -234,7 +269,9 @@ impl AskConnection {
     }
 
     /// Tells the other side to go on with the form.
-    fn tell_to_continue(&mut self) -> io::Result<()> {
+    fn tell_to_continue(&mut self) -> io::Result<()>
+        ensures { self.new.phase ≡ self.old.phase }
+    {
         match self
             .server
             .write_informational(&mut self.output, 100, b"Continue", &[])
@@ -245,7 +282,13 @@ impl AskConnection {
     }
 
     /// Takes the ask of a request that was read, or refuses it.
-    fn end_request(&mut self, now: u64) -> io::Result<Turn> {
+    fn end_request(&mut self, now: u64) -> io::Result<Turn>
+        ensures kept { (self.old.phase ≡ Waits → ⊥) → self.new.phase ≡ Waits → GivesAsk result }
+        ensures turn { IfOk result (λ turn. turn ≡ ends_so self.old.refusal (form_of self.old.form.items)) }
+        ensures waits { IfOk result (λ turn. (ask : OneAsk) → turn ≡ asks ask → IsAsking self.new ask) }
+        ensures sent { OnOk result (self.new.output.items ≡ self.old.output.items
+            ++ sent_for self.old.server self.old.refusal (form_of self.old.form.items)) }
+    {
         if let Some(refusal) = self.refusal {
             self.refused.add(Refused::of_status(refusal.status()));
             self.respond(refusal.status(), refusal.text().as_bytes(), now)?;
@@ -269,28 +312,54 @@ impl AskConnection {
     }
 
     /// Answers the ask that waits. Where there is no answer nothing is known of it.
-    pub(crate) fn answer(&mut self, answer: Option<&Answer>, now: u64) -> io::Result<()> {
-        let outcome = match answer {
-            Some(answer) => answer.outcome,
-            None => Outcome::Unanswered,
-        };
+    fn answer(&mut self, answer: Option<&Answer>, now: u64) -> io::Result<()>
+        ensures { OnOk result (self.new.output.items ≡ self.old.output.items ++ response_octets self.old.server
+            (status_told (option_copied answer.entry)) (text_told (option_copied answer.entry))) }
+    {
         match answer {
-            Some(answer) if matches!(outcome, Outcome::Accepted) => {
-                let text = reply_json(self.alloc, answer.reply.as_slice())?;
-                self.respond(outcome.status(), text.as_slice(), now)?;
-            }
-            _ => {
-                let mut text = Vec::new(self.alloc);
-                push_text(&mut text, outcome.text())?;
-                text.push(b'\n')?;
-                self.respond(outcome.status(), text.as_slice(), now)?;
-            }
+            Some(Answer { outcome, reply }) => self.tell(*outcome, reply.as_slice(), now),
+            None => self.tell(Outcome::Unanswered, &[], now),
         }
-        Ok(())
+    }
+
+    /// Tells what became of an ask to whose request this is the reply.
+    fn tell(&mut self, outcome: Outcome, reply: &[u8], now: u64) -> io::Result<()>
+        ensures { OnOk result (self.new.output.items ≡ self.old.output.items
+            ++ response_octets self.old.server (status_of outcome) (text_of outcome reply.now)) }
+    {
+        let text = text_of(self.alloc, outcome, reply)?;
+        self.respond(outcome.status(), text.as_slice(), now)
+    }
+
+    /// Whether it is done with.
+    pub(crate) fn has_ended(&self) -> bool
+        ensures { result ≡ has_ended self.now.phase }
+    {
+        matches!(self.phase, Phase::Ends)
+    }
+
+    /// Is done with it.
+    pub(crate) fn end(&mut self)
+        ensures { self.new ≡ record self.old { phase = Ends } }
+    {
+        self.phase = Phase::Ends;
+    }
+
+    /// Answers the ask that waits, and sends what goes without waiting. Where no answer can be made, or there is
+    /// none, the connection is done with.
+    pub(crate) fn answer_or_end(&mut self, answer: Option<&Answer>, now: u64)
+        ensures { IsTold self.old (option_copied answer.entry) self.new }
+    {
+        match self.answer(answer, now) {
+            Ok(()) => self.send(),
+            Err(_) => self.end(),
+        }
     }
 
     /// Sends of what is pending as much as goes without waiting. What does not go, goes in a later turn.
-    pub(crate) fn send(&mut self) {
+    pub(crate) fn send(&mut self)
+        ensures { IsRestOf self.old.output.items self.new.output.items }
+    {
         let mut stream = &self.stream;
         if let Ok(sent) = stream.write(self.output.as_slice()) {
             self.output.advance(sent.min(self.output.len()));
@@ -298,7 +367,11 @@ impl AskConnection {
     }
 
     /// Writes a response, and makes ready for the next request.
-    fn respond(&mut self, status: u16, text: &[u8], now: u64) -> io::Result<()> {
+    fn respond(&mut self, status: u16, text: &[u8], now: u64) -> io::Result<()>
+        ensures phase { self.new.phase ≡ Waits → self.old.phase ≡ Waits }
+        ensures sent { OnOk result (self.new.output.items
+            ≡ self.old.output.items ++ response_octets self.old.server status text.now) }
+    {
         match self.write_response(status, text) {
             Ok(()) => {}
             Err(fault) => return Err(io_error(fault)),
@@ -315,29 +388,44 @@ impl AskConnection {
         Ok(())
     }
 
-    /// Writes a response with this text, which is JSON if the status is 200.
-    fn write_response(&mut self, status: u16, text: &[u8]) -> Result<(), WriteError> {
-        let media_type: &[u8] = if status == 200 {
-            b"application/json"
-        } else {
-            b"text/plain; charset=utf-8"
-        };
-        let more = match status {
-            401 => header(b"www-authenticate", b"Bearer"),
-            405 => header(b"allow", b"POST"),
-            _ => header(b"cache-control", b"no-store"),
-        };
-        let headers = [header(b"content-type", media_type), more];
+    /// Writes a response with this status and text.
+    fn write_response(&mut self, status: u16, text: &[u8]) -> Result<(), WriteError>
+        ensures phase { self.new.phase ≡ self.old.phase }
+        ensures sent { OnOk result (self.new.output.items
+            ≡ self.old.output.items ++ response_octets self.old.server status text.now) }
+    {
+        self.write_head(status, text)?;
+        self.write_body(text)
+    }
+
+    /// Writes the head of a response with this status and text.
+    fn write_head(&mut self, status: u16, text: &[u8]) -> Result<(), WriteError>
+        ensures phase { self.new.phase ≡ self.old.phase }
+        ensures sent { OnOk result (self.new.output.items
+            ≡ self.old.output.items ++ head_octets self.old.server status text.now) }
+        ensures server { OnOk result (self.new.server ≡ after_head self.old.server status text.now) }
+    {
         let size = BodySize::Known(text.len() as u64);
         let reason = reason_of(status).as_bytes();
         self.server
-            .write_response(&mut self.output, status, reason, &headers, size)?;
+            .write_response(&mut self.output, status, reason, &fields_of(status), size)
+    }
+
+    /// Writes the text of a response, and ends it.
+    fn write_body(&mut self, text: &[u8]) -> Result<(), WriteError>
+        ensures phase { self.new.phase ≡ self.old.phase }
+        ensures sent { OnOk result (self.new.output.items
+            ≡ self.old.output.items ++ body_octets self.old.server text.now) }
+    {
         self.server.write_data(&mut self.output, text)?;
         self.server.write_end(&mut self.output, &[])
     }
 
     /// Answers what cannot be read, and ends the connection.
-    fn close_with(&mut self, status: u16) -> io::Result<Turn> {
+    fn close_with(&mut self, status: u16) -> io::Result<Turn>
+        ensures kept { (self.old.phase ≡ Waits → ⊥) → self.new.phase ≡ Waits → GivesAsk result }
+        ensures asks { IfOk result (λ turn. (ask : OneAsk) → turn ≡ asks ask → ⊥) }
+    {
         self.refused.add(Refused::of_status(status));
         self.output.put_slice(closing_text(status).as_bytes())?;
         self.phase = Phase::Closes;
@@ -345,49 +433,18 @@ impl AskConnection {
     }
 }
 
-/// A field of a response.
-fn header<'a>(name: &'a [u8], value: &'a [u8]) -> Header<'a> {
-    Header { name, value }
-}
-
-/// Why a request with this head is refused, if it is, whatever its form.
-fn refusal_of(
-    token: &Token,
-    input: &[u8],
-    head: &RequestSpans,
-    spans: &[HeaderSpan],
-) -> Option<Refusal> {
-    if !shows_token(token, input, head, spans) {
-        return Some(Refusal::Token);
-    }
-    if covered(input, head.path) != b"/ask".as_slice() {
-        return Some(Refusal::Path);
-    }
-    if covered(input, head.method) != b"POST".as_slice() {
-        return Some(Refusal::Method);
-    }
-    None
-}
-
-/// Whether a request has exactly one field Authorization, which shows the token.
-fn shows_token(token: &Token, input: &[u8], head: &RequestSpans, spans: &[HeaderSpan]) -> bool {
-    let mut count = 0u64;
-    let mut is_shown = false;
-    for span in spans.iter().take(head.headers) {
-        if covered(input, span.name).eq_ignore_ascii_case(b"authorization") {
-            count = count.saturating_add(1);
-            is_shown = token.is_shown(covered(input, span.value));
+/// What is told of an ask: the reply where it is accepted, and else what became of it.
+fn text_of(alloc: Global, outcome: Outcome, reply: &[u8]) -> Result<Vec<u8>, AllocError>
+    ensures { IfOk result (λ text. text.items ≡ text_of outcome reply.now) }
+{
+    match outcome {
+        Outcome::Accepted => reply_json(alloc, reply),
+        outcome => {
+            let mut text = Vec::new(alloc);
+            push_text(&mut text, outcome.text())?;
+            text.push(b'\n')?;
+            Ok(text)
         }
-    }
-    count == 1 && is_shown
-}
-
-/// The octets that a span covers; none where it covers none of these.
-fn covered(input: &[u8], span: Span) -> &[u8] {
-    if span.start <= span.end && span.end <= input.len() {
-        &input[span.start..span.end]
-    } else {
-        &[]
     }
 }
 

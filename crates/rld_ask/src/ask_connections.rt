@@ -1,11 +1,13 @@
 //! All connections over which asks come, served from one thread.
 
+ghost use Rattle.std.specs.Prelude.{◌≡◌, ◌++◌, Ok, map, slice_get};
+ghost use Rattle.rld_ask.specs.Asking.{AreTold, IsToldIf, answers_after, asks_in, forms_of};
+
 use crate::ask_connection::{AskConnection, Turn};
 use crate::asked::{Answer, Asked};
 use crate::form::AskForm;
 use crate::refused::Refused;
 use crate::token::Token;
-use circular_buffer::HeapCircularBuffer;
 use mio::unix::SourceFd;
 use mio::{Events, Interest, Poll, Token as Name};
 use std::alloc::Global;
@@ -27,7 +29,7 @@ const SOCKET: Name = Name(0);
 #[derive(Drop)]
 pub(crate) struct AskConnections {
     alloc: Global,
-    open: HeapCircularBuffer<AskConnection>,
+    connections: Vec<AskConnection>,
     poll: Poll,
     events: Events,
     has_more: bool,
@@ -47,7 +49,7 @@ impl AskConnections {
             .register(&mut SourceFd(&fd), SOCKET, Interest::READABLE)?;
         Ok(AskConnections {
             alloc,
-            open: HeapCircularBuffer::with_capacity(alloc, MOST_OPEN)?,
+            connections: Vec::with_capacity(alloc, MOST_OPEN)?,
             poll,
             events: Events::with_capacity(alloc, MOST_OPEN)?,
             has_more: true,
@@ -89,7 +91,11 @@ impl AskConnections {
         if registered.is_err() {
             return;
         }
-        let _oldest = self.open.push_back(connection);
+        if self.connections.len() >= MOST_OPEN {
+            drop(self.connections.remove(0));
+        }
+        // there is room, so none is refused
+        let _none = self.connections.push(connection);
     }
 
     /// Gives each connection a turn, puts their asks to the server together, and answers them. Gives whether
@@ -106,55 +112,116 @@ impl AskConnections {
         let Some(answers) = server.ask(asks.as_slice()) else {
             return false;
         };
-        self.answer_each(answers.as_slice(), now);
+        answer_each(&mut self.connections, answers.as_slice(), now);
         self.has_more = true;
         true
     }
 
     /// Gives each connection a turn, and closes those that are done with or have had their time. Each has one
     /// ask at most. Gives how many requests were refused.
-    fn gather(&mut self, token: &Token, asks: &mut Vec<AskForm>, now: u64) -> Refused {
+    fn gather(&mut self, token: &Token, asks: &mut Vec<AskForm>, now: u64) -> Refused
+        ensures { map Ok asks.new.items ≡ map Ok asks.old.items ++ asks_in self.new.connections.items }
+    {
         let mut refused = Refused::none();
-        for _ in 0..self.open.len() {
-            let Some(mut connection) = self.open.pop_front() else {
-                return refused;
-            };
-            if connection.left(now) == 0 {
-                continue;
-            }
-            let turn = connection.take_turn(token, now);
-            refused.add(connection.take_refused());
-            match turn {
-                Turn::Waits => {}
-                Turn::GoesOn => self.has_more = true,
-                Turn::Asks(ask) => {
-                    if asks.push(ask).is_err() {
-                        continue;
-                    }
-                }
-                Turn::Leaves => continue,
-            }
-            let _none = self.open.push_back(connection);
+        if take_turns(&mut self.connections, token, asks, &mut refused, now) {
+            self.has_more = true;
         }
+        self.close_ended();
         refused
     }
 
-    /// Answers the connections that wait, in the order of their asks.
-    fn answer_each(&mut self, answers: &[Answer], now: u64) {
-        let mut next = 0usize;
-        for _ in 0..self.open.len() {
-            let Some(mut connection) = self.open.pop_front() else {
-                return;
-            };
-            if connection.is_waiting() {
-                let answered = connection.answer(answers.get(next), now);
-                next = next.saturating_add(1);
-                if answered.is_err() {
-                    continue;
-                }
-                connection.send();
+    /// Closes the connections that are done with.
+    fn close_ended(&mut self)
+        ensures { asks_in self.new.connections.items ≡ asks_in self.old.connections.items }
+    {
+        self.connections
+            .retain(|connection| !connection.has_ended());
+    }
+}
+
+/// Gives each connection a turn, and gives whether one can go on at once.
+#[tactic(auto, using(crate::proofs::Gathering::asks_more, crate::proofs::Gathering::asks_all))]
+fn take_turns(
+    connections: &mut [AskConnection],
+    token: &Token,
+    asks: &mut Vec<AskForm>,
+    refused: &mut Refused,
+    now: u64,
+) -> bool
+    ensures { map Ok asks.new.items ≡ map Ok asks.old.items ++ asks_in connections.new }
+{
+    let mut has_more = false;
+    for index in 0..connections.len() {
+        let connection = &mut connections[index];
+        if take_turn_of(connection, token, asks, now) {
+            has_more = true;
+        }
+        refused.add(connection.take_refused());
+    }
+    has_more
+}
+
+/// Gives a connection a turn, takes its ask, if it has one, and gives whether it can go on at once. One that has
+/// had its time is done with, and one that waits still: it was not answered.
+fn take_turn_of(
+    connection: &mut AskConnection,
+    token: &Token,
+    asks: &mut Vec<AskForm>,
+    now: u64,
+) -> bool
+    ensures { map Ok asks.new.items ≡ map Ok asks.old.items ++ forms_of connection.new }
+{
+    if connection.left(now) == 0 || connection.is_waiting() {
+        connection.end();
+        return false;
+    }
+    match connection.take_turn(token, now) {
+        Turn::Waits => false,
+        Turn::GoesOn => true,
+        Turn::Asks(ask) => {
+            if asks.push(ask).is_err() {
+                connection.end();
             }
-            let _none = self.open.push_back(connection);
+            false
+        }
+        Turn::Leaves => {
+            connection.end();
+            false
+        }
+    }
+}
+
+/// Answers the connections that wait: the first with the first answer, and so on.
+#[tactic(auto, using(crate::proofs::Gathering::told_step, crate::proofs::Gathering::left_step, crate::proofs::Gathering::rest_step, crate::proofs::Gathering::told_all))]
+fn answer_each(connections: &mut [AskConnection], answers: &[Answer], now: u64)
+    ensures { AreTold connections.old answers.now connections.new }
+{
+    let mut left = answers;
+    for index in 0..connections.len() {
+        left = answer_if_waiting(&mut connections[index], left, now);
+    }
+}
+
+/// Answers a connection with the next answer, if it waits. Gives the answers that are left.
+fn answer_if_waiting<'a>(
+    connection: &mut AskConnection,
+    answers: &'a [Answer],
+    now: u64,
+) -> &'a [Answer]
+    ensures told { IsToldIf connection.old (slice_get answers.now 0) connection.new }
+    ensures rest { result.now ≡ answers_after connection.old answers.now }
+{
+    if !connection.is_waiting() {
+        return answers;
+    }
+    match answers.split_first() {
+        Some((answer, others)) => {
+            connection.answer_or_end(Some(answer), now);
+            others
+        }
+        None => {
+            connection.answer_or_end(None, now);
+            answers
         }
     }
 }

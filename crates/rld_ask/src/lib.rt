@@ -4,7 +4,9 @@
 //! The promise: a form is the ask that `specs/Form.antt` says, or the first fault in it is named; an ask is
 //! exactly the Access-Request of `specs/Request.antt`, which its client would have sent, and the same ask has the
 //! same octets, so that to the server a repeat is one; and what is answered is by the reply to it
-//! (`specs/Outcome.antt`, `specs/Reply.antt`). There are at most 64 connections, and none waits for another.
+//! (`specs/Outcome.antt`, `specs/Reply.antt`), with the response that `specs/Sending.antt` says. Whoever does not
+//! show the token is refused (`specs/Heads.antt`), and each connection is told the answer to its own ask
+//! (`specs/Asking.antt`). There are at most 64 connections, and none waits for another.
 #![tactic(auto)]
 
 mod ask_connection;
@@ -20,6 +22,7 @@ mod refusal;
 mod refused;
 mod reply;
 mod request;
+mod spans;
 mod status;
 mod token;
 
