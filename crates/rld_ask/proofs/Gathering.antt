@@ -1,8 +1,7 @@
 -- The asks of connections, one after the other.
 use Rattle.std.proofs.Common.{◌≡◌, ℕ, ◌+◌, ◌<◌, ◌≤◌, List, [], ◌∷◌, ◌++◌, take, length, refl, ap, sym, ◌∙◌, append-nil, subst, get_or, arith}
 use Rattle.std.proofs.lemmas.List.{drop-set-lt, drop_more, take_all, take_more, take_more_set}
-use Rattle.std.specs.Prelude.{Result, set, Bool, true, false, cond, drop, not, Option, slice_get}
-use Rattle.std.specs.List.{flat_map}
+use Rattle.std.specs.Prelude.{Result, set, Bool, true, false, cond, drop, not, slice_get}
 use Rattle.std.proofs.lemmas.Grind.{flat_map-append}
 use Rattle.rld_ask.specs.Form.{form_of}
 use Rattle.std.specs.List.{filter}

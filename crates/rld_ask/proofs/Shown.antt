@@ -1,6 +1,6 @@
 -- What the fields before say of those that are left.
 use Rattle.std.proofs.Common.{◌≡◌, refl}
-use Rattle.std.specs.Prelude.{ℕ, Bool, true, false, List, [], ◌∷◌, Option, Some, None, filter, bytes_eq}
+use Rattle.std.specs.Prelude.{ℕ, Bool, false, List, [], ◌∷◌, Option, Some, None, filter, bytes_eq}
 use Rattle.rld_ask.specs.Heads.{is_authorization, is_only, shows_token}
 
 abbrev pub alone : Bool → List (List ℕ × List ℕ) → Bool

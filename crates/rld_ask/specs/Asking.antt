@@ -1,5 +1,5 @@
 -- Which connections have which asks, and which answer each is given.
-use Rattle.std.specs.Prelude.{◌≡◌, ⊤, ℕ, Bool, true, false, List, [], ◌∷◌, drop, cond, Option, Some, None, Result, slice_get}
+use Rattle.std.specs.Prelude.{◌≡◌, ⊤, Bool, true, false, List, [], ◌∷◌, drop, cond, Option, Result, slice_get}
 use Rattle.std.specs.List.{flat_map}
 use Rattle.rld_ask.specs.Form.{form_of}
 use Rattle.rld_ask.specs.Sending.{IsTold}

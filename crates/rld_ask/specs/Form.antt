@@ -1,6 +1,6 @@
 -- The form of an ask (`application/x-www-form-urlencoded` of the URL Standard): which fields it may have, and
 -- which values each.
-use Rattle.std.specs.Prelude.{ℕ, Bool, true, false, ◌==◌, ◌&&◌, not, nat_le, if◌then◌else◌, List, [], ◌∷◌, ◌++◌, length, codes, bytes_eq, Option, Some, None, is_some, Result, Ok, Err}
+use Rattle.std.specs.Prelude.{ℕ, Bool, ◌==◌, ◌&&◌, not, nat_le, if◌then◌else◌, List, [], ◌∷◌, ◌++◌, length, codes, bytes_eq, Option, Some, None, is_some, Result, Ok, Err}
 use Rattle.form_urlencoded.specs.Form.{decode, raw_pairs}
 use Rattle.rsl_accounts.specs.Address.{address_of}
 use Rattle.rld_ask.specs.declared.fault.FormFault.{FormFault}

@@ -1,24 +1,13 @@
 -- Which requests are refused by their head.
-use Rattle.std.specs.Prelude.{ℕ, Bool, true, false, nat_le, ◌&&◌, not, if◌then◌else◌, min, List, [], ◌∷◌, codes, filter, length, slice_range, take, bytes_eq, Option, Some, None}
+use Rattle.std.specs.Prelude.{◌≡◌, ℕ, Bool, false, not, if◌then◌else◌, List, [], ◌∷◌, codes, drop, filter, map, bytes_eq, Option, Some, None}
 use Rattle.std.specs.Str.{str_eq_ignore_ascii_case}
-use Rattle.httparse.specs.declared.spans.HeaderSpan.{HeaderSpan}
-use Rattle.httparse.specs.declared.spans.RequestSpans.{RequestSpans}
-use Rattle.httparse.specs.declared.spans.Span.{Span}
+use Rattle.httparse.specs.Grammar.{RequestHead}
+use Rattle.httparse.specs.Spans.{name_and_value}
+use Rattle.http1.specs.Message.{AcceptsRequest}
+use Rattle.http1.specs.declared.conn.Limits.{Limits}
+use Rattle.http1.specs.declared.framing.Framing.{Framing}
 use Rattle.rld_ask.specs.declared.refusal.Refusal.{Refusal}
 use Rattle.rld_ask.specs.declared.refusal.Refusal.TheVariants.{Token, Path, Method}
-
--- the octets that a span covers; none where it covers none of these
-abbrev pub covered : (input : List ℕ) → Span → List ℕ
-covered input span =
-    if nat_le span.start span.end && nat_le span.end (length input) then slice_range input span.start span.end else []
-
--- the spans of a head's fields
-abbrev pub spans_of : RequestSpans → (spans : List HeaderSpan) → List HeaderSpan
-spans_of head spans = take (min head.headers (length spans)) spans
-
--- the name and the value of a field
-abbrev pub field_in : (input : List ℕ) → HeaderSpan → List ℕ × List ℕ
-field_in input span = (covered input span.name, covered input span.value)
 
 -- the field with which whoever asks shows who he is (RFC 9110 section 11.6.2)
 abbrev pub is_authorization : (name : List ℕ) → Bool
@@ -40,3 +29,15 @@ refusal_of credentials fields path method =
     else if not (bytes_eq path (codes "/ask")) then Some Path
     else if not (bytes_eq method (codes "POST")) then Some Method
     else None
+
+-- the same, by the head of the grammar (RFC 9112 section 2.1)
+abbrev pub refusal_by : (credentials : List ℕ) → RequestHead → Option Refusal
+refusal_by credentials head = refusal_of credentials (map name_and_value head.fields) head.target head.method
+
+-- the input begins with a head that is accepted, and this is why its request is refused
+pub record IsJudged (credentials : List ℕ) (limits : Limits) (input : List ℕ) (refusal : Option Refusal) : Type 0 where
+  pub head : RequestHead
+  pub framing : Framing
+  pub len : ℕ
+  pub accepts : AcceptsRequest limits input head framing (drop len input)
+  pub is : refusal ≡ refusal_by credentials head

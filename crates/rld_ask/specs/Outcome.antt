@@ -1,8 +1,7 @@
 -- What became of an ask, by what was answered to its request.
-use Rattle.std.specs.Prelude.{ℕ, List, codes, Option, Some, None}
+use Rattle.std.specs.Prelude.{ℕ, List, codes, Option, Some}
 use Rattle.rsl_event.specs.declared.detail.Detail.{Detail}
 use Rattle.rsl_event.specs.declared.detail.Detail.TheVariants.{Rejected}
-use Rattle.rsl_event.specs.declared.detail.RejectCause.{RejectCause}
 use Rattle.rsl_event.specs.declared.detail.RejectCause.TheVariants as causes
 use Rattle.rsl_event.specs.declared.words.Said.{Said}
 use Rattle.rsl_event.specs.declared.words.Said.TheVariants.{Accept, LimitReject, Reject}

@@ -1,6 +1,6 @@
 -- The Access-Request that an ask is (RFC 2865 section 4.1): without a password, so that only a client whose
 -- asks are trusted may send it.
-use Rattle.std.specs.Prelude.{ℕ, ◌≤◌, List, [], ◌∷◌, ◌++◌, length, take, Option, Some, None, IfSome, slice_index}
+use Rattle.std.specs.Prelude.{ℕ, ◌≤◌, List, [], ◌∷◌, ◌++◌, length, Option, Some, None, IfSome, slice_index}
 use Rattle.md5.specs.Md5.{md5}
 use Rattle.rsl_auth.specs.Signature.{signed}
 use Rattle.rsl_wire.specs.Attributes.{Attribute, attribute_of, list_octets}

@@ -2,8 +2,7 @@
 use Rattle.std.specs.Prelude.{ℕ, ◌==◌, if◌then◌else◌, List, [], ◌∷◌, ◌++◌, codes, length}
 use Rattle.http1.specs.Conn.{data_text, finish_text, after_data}
 use Rattle.http1.specs.Fields.{Header}
-use Rattle.http1.specs.Server.{after_response, planned_response, with_writing, writing}
-use Rattle.http1.specs.declared.conn.BodySize.{BodySize}
+use Rattle.http1.specs.Server.{after_response, planned_response, writing}
 use Rattle.http1.specs.declared.conn.BodySize.TheVariants.{Known}
 use Rattle.http1.specs.declared.server.Server.{Server}
 

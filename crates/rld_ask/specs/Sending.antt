@@ -8,7 +8,8 @@ use Rattle.rld_ask.specs.Form.{fault_text, form_of}
 use Rattle.rld_ask.specs.Outcome as outcomes
 use Rattle.rld_ask.specs.Reply.{json_of}
 use Rattle.rld_ask.specs.declared.ask_connection.AskConnection.{AskConnection}
-use Rattle.rld_ask.specs.declared.ask_connection.Phase.TheVariants.{Ends, Waits}
+use Rattle.rld_ask.specs.declared.ask_connection.Phase.{Phase}
+use Rattle.rld_ask.specs.declared.ask_connection.Phase.TheVariants.{Closes, Ends, Rests, Waits}
 use Rattle.rld_ask.specs.declared.ask_connection.Turn.{Turn}
 use Rattle.rld_ask.specs.declared.ask_connection.Turn.TheVariants.{Asks, GoesOn}
 use Rattle.rld_ask.specs.declared.refusal.Refusal.{Refusal}
@@ -35,6 +36,12 @@ abbrev pub sent_for : Server → Option Refusal → Result AskForm FormFault →
 sent_for server (Some refusal) form = response_octets server (refusals.status_of refusal) (refusals.text_of refusal)
 sent_for server None (Ok ask) = []
 sent_for server None (Err fault) = response_octets server 400 (fault_text fault ++ codes "\n")
+
+-- a connection goes on with the next request, or with none
+abbrev pub HasResponded : Phase → Type 0
+HasResponded Rests = ⊤
+HasResponded Closes = ⊤
+HasResponded _ = ⊥
 
 -- ---- the answer to an ask
 

@@ -1,11 +1,14 @@
 //! A connection over which asks come, one after the other.
 
-ghost use Rattle.std.specs.Prelude.{◌≡◌, ◌++◌, IfOk, OnOk, option_copied};
+ghost use Rattle.std.specs.Prelude.{◌≡◌, ◌⊎◌, ◌++◌, IfOk, None, OnErr, OnOk, option_copied};
+ghost use Rattle.http1.specs.declared.conn.Reading.TheVariants.{Body, Head};
+ghost use Rattle.http1.specs.declared.decode.Decoder.{Decoder};
 ghost use Rattle.rld_ask.specs.Asking.{has_ended, is_waiting};
 ghost use Rattle.rld_ask.specs.Form.{form_of};
 ghost use Rattle.rld_ask.specs.Outcome.{status_of};
+ghost use Rattle.rld_ask.specs.Heads.{IsJudged};
 ghost use Rattle.rld_ask.specs.Response.{after_head, body_octets, head_octets, response_octets};
-ghost use Rattle.rld_ask.specs.Sending.{GivesAsk, IsAsk, IsAsking, IsRestOf, IsTold, ends_so, sent_for, status_told, text_of, text_told};
+ghost use Rattle.rld_ask.specs.Sending.{GivesAsk, HasResponded, IsAsk, IsAsking, IsRestOf, IsTold, ends_so, sent_for, status_told, text_of, text_told};
 ghost use Rattle.rld_ask.specs.declared.ask_connection.Phase.TheVariants.{Ends, Waits};
 ghost use Rattle.rld_ask.specs.declared.ask_connection.Turn.TheVariants.{Asks as asks};
 ghost use Rattle.rld_ask.specs.declared.form.AskForm.{AskForm as OneAsk};
@@ -17,7 +20,6 @@ use crate::outcome::Outcome;
 use crate::refusal::Refusal;
 use crate::refused::Refused;
 use crate::reply::reply_json;
-use crate::spans::covered;
 use crate::status::{closing_text, fields_of, reason_of};
 use crate::token::Token;
 use bytes::{Buf, BufMut, BytesMut};
@@ -201,9 +203,17 @@ impl AskConnection {
     }
 
     /// Takes one event from what was read, or reads more.
+    #[tactic(auto, using(crate::proofs::Judging::judged, crate::proofs::Judging::no_data, crate::proofs::Judging::no_end))]
     fn read_event(&mut self, token: &Token, now: u64) -> io::Result<Turn>
         ensures kept { (self.old.phase ≡ Waits → ⊥) → self.new.phase ≡ Waits → GivesAsk result }
         ensures asks { IfOk result (λ turn. (ask : OneAsk) → turn ≡ asks ask → IsAsking self.new ask) }
+        ensures judged { self.old.server.reading ≡ Head → (body : Decoder) →
+            self.new.server.reading ≡ Body body →
+            IsJudged token.now.credentials.items self.old.server.limits self.old.input.items self.new.refusal }
+        ensures stays { (body : Decoder) → self.old.server.reading ≡ Body body →
+            (self.new.refusal ≡ self.old.refusal) ⊎ HasResponded self.new.phase }
+        ensures taken { IfOk result (λ turn. (ask : OneAsk) → turn ≡ asks ask →
+            (self.old.server.reading ≡ Head → ⊥) × (self.old.refusal ≡ None)) }
     {
         let mut spans = [EMPTY_HEADER_SPAN; MAX_FIELDS];
         let read = match self.server.read(self.input.as_slice(), &mut spans) {
@@ -211,41 +221,49 @@ impl AskConnection {
             Err(fault) => return self.close_with(fault.status()),
         };
         match read.event {
-            Event::NeedMore => return self.read_more(now),
+            Event::NeedMore => self.read_more(now),
             Event::Head(head) => {
                 self.refusal = Refusal::of(token, self.input.as_slice(), &head, &spans);
-                if self.server.has_codings() {
-                    return self.close_with(501);
-                }
-                if let BodySize::Known(len) = self.server.unread_size()
-                    && len > MAX_FORM_LEN as u64
-                {
-                    return self.close_with(413);
+                if let Some(status) = self.closing_status() {
+                    return self.close_with(status);
                 }
                 if self.server.expects_continue() {
                     self.tell_to_continue()?;
                 }
+                self.consume(read.consumed);
+                Ok(Turn::GoesOn)
             }
             Event::Data(piece) => {
-                let piece = covered(self.input.as_slice(), piece);
+                let piece = piece.of(self.input.as_slice());
                 if self.form.len() + piece.len() > MAX_FORM_LEN {
                     return self.close_with(413);
                 }
                 self.form.extend_from_slice(piece)?;
+                self.consume(read.consumed);
+                Ok(Turn::GoesOn)
             }
             Event::End(_) => {
                 self.consume(read.consumed);
-                return self.end_request(now);
+                self.end_request(now)
             }
-            _ => return Ok(Turn::Leaves),
+            _ => Ok(Turn::Leaves),
         }
-        self.consume(read.consumed);
-        Ok(Turn::GoesOn)
+    }
+
+    /// The status with which a connection closes whose request has a form that is not read: a coded or a long one.
+    fn closing_status(&self) -> Option<u16> {
+        if self.server.has_codings() {
+            return Some(501);
+        }
+        match self.server.unread_size() {
+            BodySize::Known(len) if len > MAX_FORM_LEN as u64 => Some(413),
+            _ => None,
+        }
     }
 
     /// Lets go of octets that were read.
     fn consume(&mut self, count: usize)
-        ensures { self.new.phase ≡ self.old.phase }
+        ensures { self.new ≡ record self.old { input = self.new.input } }
     {
         let count = count.min(self.input.len());
         self.input.advance(count);
@@ -253,6 +271,8 @@ impl AskConnection {
 
     /// Reads octets, if some are there.
     fn read_more(&mut self, now: u64) -> io::Result<Turn>
+        ensures server { self.new.server ≡ self.old.server }
+        ensures refusal { self.new.refusal ≡ self.old.refusal }
         ensures kept { (self.old.phase ≡ Waits → ⊥) → self.new.phase ≡ Waits → GivesAsk result }
         ensures asks { IfOk result (λ turn. (ask : OneAsk) → turn ≡ asks ask → ⊥) }
     {
@@ -270,7 +290,9 @@ impl AskConnection {
 
     /// Tells the other side to go on with the form.
     fn tell_to_continue(&mut self) -> io::Result<()>
-        ensures { self.new.phase ≡ self.old.phase }
+        ensures reading { self.new.server.reading ≡ self.old.server.reading }
+        ensures refusal { self.new.refusal ≡ self.old.refusal }
+        ensures phase { self.new.phase ≡ self.old.phase }
     {
         match self
             .server
@@ -283,6 +305,7 @@ impl AskConnection {
 
     /// Takes the ask of a request that was read, or refuses it.
     fn end_request(&mut self, now: u64) -> io::Result<Turn>
+        ensures stays { (self.new.refusal ≡ self.old.refusal) ⊎ HasResponded self.new.phase }
         ensures kept { (self.old.phase ≡ Waits → ⊥) → self.new.phase ≡ Waits → GivesAsk result }
         ensures turn { IfOk result (λ turn. turn ≡ ends_so self.old.refusal (form_of self.old.form.items)) }
         ensures waits { IfOk result (λ turn. (ask : OneAsk) → turn ≡ asks ask → IsAsking self.new ask) }
@@ -368,6 +391,8 @@ impl AskConnection {
 
     /// Writes a response, and makes ready for the next request.
     fn respond(&mut self, status: u16, text: &[u8], now: u64) -> io::Result<()>
+        ensures refusal { OnErr result (self.new.refusal ≡ self.old.refusal) }
+        ensures done { OnOk result (HasResponded self.new.phase) }
         ensures phase { self.new.phase ≡ Waits → self.old.phase ≡ Waits }
         ensures sent { OnOk result (self.new.output.items
             ≡ self.old.output.items ++ response_octets self.old.server status text.now) }
@@ -390,6 +415,7 @@ impl AskConnection {
 
     /// Writes a response with this status and text.
     fn write_response(&mut self, status: u16, text: &[u8]) -> Result<(), WriteError>
+        ensures refusal { self.new.refusal ≡ self.old.refusal }
         ensures phase { self.new.phase ≡ self.old.phase }
         ensures sent { OnOk result (self.new.output.items
             ≡ self.old.output.items ++ response_octets self.old.server status text.now) }
@@ -400,6 +426,7 @@ impl AskConnection {
 
     /// Writes the head of a response with this status and text.
     fn write_head(&mut self, status: u16, text: &[u8]) -> Result<(), WriteError>
+        ensures refusal { self.new.refusal ≡ self.old.refusal }
         ensures phase { self.new.phase ≡ self.old.phase }
         ensures sent { OnOk result (self.new.output.items
             ≡ self.old.output.items ++ head_octets self.old.server status text.now) }
@@ -413,6 +440,7 @@ impl AskConnection {
 
     /// Writes the text of a response, and ends it.
     fn write_body(&mut self, text: &[u8]) -> Result<(), WriteError>
+        ensures refusal { self.new.refusal ≡ self.old.refusal }
         ensures phase { self.new.phase ≡ self.old.phase }
         ensures sent { OnOk result (self.new.output.items
             ≡ self.old.output.items ++ body_octets self.old.server text.now) }
@@ -423,6 +451,8 @@ impl AskConnection {
 
     /// Answers what cannot be read, and ends the connection.
     fn close_with(&mut self, status: u16) -> io::Result<Turn>
+        ensures server { self.new.server ≡ self.old.server }
+        ensures refusal { self.new.refusal ≡ self.old.refusal }
         ensures kept { (self.old.phase ≡ Waits → ⊥) → self.new.phase ≡ Waits → GivesAsk result }
         ensures asks { IfOk result (λ turn. (ask : OneAsk) → turn ≡ asks ask → ⊥) }
     {

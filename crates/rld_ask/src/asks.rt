@@ -1,3 +1,5 @@
+ghost use Rattle.std.specs.Prelude.{◌≡◌, IfOk};
+
 use crate::ask_connections::AskConnections;
 use crate::asked::Asked;
 use crate::token::Token;
@@ -34,7 +36,10 @@ impl Asks {
         client: [u8; 4],
         address: [u8; 4],
         port: u16,
-    ) -> io::Result<Asks> {
+    ) -> io::Result<Asks>
+        ensures token { IfOk result (λ asks. asks.token ≡ token) }
+        ensures client { IfOk result (λ asks. asks.client ≡ client) }
+    {
         let place = SocketAddrV4::new(Ipv4Addr::from(address), port);
         let listener = TcpListener::bind(net, SocketAddr::V4(place))?;
         listener.set_nonblocking(true)?;
@@ -47,7 +52,9 @@ impl Asks {
     }
 
     /// The address of the client as which asks come.
-    pub fn client(&self) -> [u8; 4] {
+    pub fn client(&self) -> [u8; 4]
+        ensures { result ≡ self.now.client }
+    {
         self.client
     }
 

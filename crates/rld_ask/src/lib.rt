@@ -22,7 +22,6 @@ mod refusal;
 mod refused;
 mod reply;
 mod request;
-mod spans;
 mod status;
 mod token;
 

@@ -1,8 +1,9 @@
-ghost use Rattle.std.specs.Prelude.{◌≡◌, map};
-ghost use Rattle.rld_ask.specs.Heads.{covered, field_in, is_authorization, refusal_of, shows_token, spans_of};
+ghost use Rattle.std.specs.Prelude.{◌≡◌, ◌≤◌, All, length, map, take};
+ghost use Rattle.httparse.specs.Grammar.{RequestHead};
+ghost use Rattle.httparse.specs.Spans.{IsHeaderWithin, IsRequestAt, IsRequestWithin, header_bytes, span_bytes};
+ghost use Rattle.rld_ask.specs.Heads.{is_authorization, refusal_by, refusal_of, shows_token};
 ghost use Rattle.rld_ask.specs.Refusal.{status_of, text_of};
 
-use crate::spans::covered;
 use crate::token::Token;
 use httparse::spans::{HeaderSpan, RequestSpans};
 
@@ -18,26 +19,46 @@ pub(crate) enum Refusal {
 }
 
 impl Refusal {
-    /// Why a request with this head is refused, if it is. The spans are those of the head's fields, at least as
-    /// many as it has, and all of them lie in `input`.
+    /// Why a request with this head is refused, if it is. The spans are those that `http1` has found in the input.
     pub(crate) fn of(
         token: &Token,
         input: &[u8],
         head: &RequestSpans,
         spans: &[HeaderSpan],
     ) -> Option<Refusal>
-        ensures { result ≡ refusal_of token.now.credentials.items
-            (map (field_in input.now) (spans_of head.now spans.now))
-            (covered input.now head.now.path) (covered input.now head.now.method) }
+        requires { IsRequestWithin input.now spans.now head.now }
+        ensures { (found : RequestHead) → IsRequestAt input.now spans.now head.now found →
+            result ≡ refusal_by token.now.credentials.items found }
     {
-        let spans = &spans[..head.headers.min(spans.len())];
-        if !shows_token(token, input, spans) {
+        let fields = &spans[..head.headers];
+        Refusal::by(
+            token,
+            input,
+            fields,
+            head.path.of(input),
+            head.method.of(input),
+        )
+    }
+
+    /// The same, by these fields, this path and this method.
+    fn by(
+        token: &Token,
+        input: &[u8],
+        fields: &[HeaderSpan],
+        path: &[u8],
+        method: &[u8],
+    ) -> Option<Refusal>
+        requires { All (IsHeaderWithin (length input.now)) fields.now }
+        ensures { result ≡ refusal_of token.now.credentials.items
+            (map (header_bytes input.now) fields.now) path.now method.now }
+    {
+        if !shows_token(token, input, fields) {
             return Some(Refusal::Token);
         }
-        if covered(input, head.path) != b"/ask".as_slice() {
+        if path != b"/ask".as_slice() {
             return Some(Refusal::Path);
         }
-        if covered(input, head.method) != b"POST".as_slice() {
+        if method != b"POST".as_slice() {
             return Some(Refusal::Method);
         }
         None
@@ -68,16 +89,17 @@ impl Refusal {
 
 /// Whether exactly one of these fields is Authorization, and shows the token.
 #[tactic(auto, using(crate::proofs::Shown::first), unfolding(crate::proofs::Shown::shown_with))]
-fn shows_token(token: &Token, input: &[u8], spans: &[HeaderSpan]) -> bool
-    ensures { result ≡ shows_token token.now.credentials.items (map (field_in input.now) spans.now) }
+fn shows_token(token: &Token, input: &[u8], fields: &[HeaderSpan]) -> bool
+    requires { All (IsHeaderWithin (length input.now)) fields.now }
+    ensures { result ≡ shows_token token.now.credentials.items (map (header_bytes input.now) fields.now) }
 {
     let mut shown = None;
-    for span in spans {
-        if is_authorization(covered(input, span.name)) {
+    for field in fields {
+        if is_authorization(field.name.of(input)) {
             if shown.is_some() {
                 return false;
             }
-            shown = Some(token.is_shown(covered(input, span.value)));
+            shown = Some(token.is_shown(field.value.of(input)));
         }
     }
     shown.unwrap_or(false)

@@ -1,4 +1,4 @@
-use Rattle.std.proofs.Common.{◌≡◌, take, drop, length}
+use Rattle.std.proofs.Common.{◌≡◌, take, drop}
 use Rattle.rld_ask.specs.Asking.{AreTold}
 use Rattle.rld_ask.proofs.Gathering.{answers_left}
 use Rattle.rld_ask.proofs.ask_connections.answer_each.Given as goal

@@ -1,7 +1,6 @@
-use Rattle.std.proofs.Common.{rules, ◌≡◌, ◌∙◌, ap, sym}
+use Rattle.std.proofs.Common.{rules, ◌∙◌, ap}
 use Rattle.std.proofs.lemmas.Fn.{filter_same}
 use Rattle.rld_ask.specs.Asking.{asks_in}
-use Rattle.rld_ask.specs.declared.ask_connection.AskConnection.{AskConnection}
 use Rattle.rld_ask.proofs.Gathering.{asks_kept, is_kept}
 use Rattle.rld_ask.proofs.ask_connections.AskConnections.close_ended.Goals as goal
 
