@@ -368,8 +368,8 @@ impl AskConnection {
         self.phase = Phase::Ends;
     }
 
-    /// Answers the ask that waits, and sends what goes without waiting. Where no answer can be made, or there is
-    /// none, the connection is done with.
+    /// Answers the ask that waits, and sends what goes without waiting. Where the answer cannot be written, the
+    /// connection is done with.
     pub(crate) fn answer_or_end(&mut self, answer: Option<&Answer>, now: u64)
         ensures { IsTold self.old (option_copied answer.entry) self.new }
     {

@@ -1,7 +1,8 @@
 //! Where the request to disconnect a session goes.
 
-ghost use Rattle.std.specs.Prelude.{◌≡◌, IfOk};
+ghost use Rattle.std.specs.Prelude.{◌≡◌, ◌↔◌, IfOk, IsErrOf, None};
 ghost use Rattle.std.specs.Arc.{arc_value};
+ghost use Rattle.rsl_accounts.specs.Configuration.{account_number, client_number};
 ghost use Rattle.rld_control.specs.Disconnecting.{port_of, sent_to};
 ghost use Rattle.rld_state.specs.Disconnecting.{GoesTo};
 ghost use Rattle.rld_state.specs.Held.{is_held_in};
@@ -22,8 +23,12 @@ impl<L: Log + Drop> ServerState<L> {
         alloc: Global,
         named: &NamedSession,
     ) -> Result<Result<u16, DisconnectFault>, FreeFault>
-        ensures { IfOk result
+        ensures found { IfOk result
             (GoesTo (arc_value self.now.config) self.now.recorder.books named.now) }
+        ensures account { IsErrOf result FreeFault.UnknownAccount ↔
+            (account_number (arc_value self.now.config) named.now.account ≡ None) }
+        ensures client { IsErrOf result FreeFault.UnknownClient →
+            client_number (arc_value self.now.config) named.now.client ≡ None }
     {
         let stop = Stop::of(alloc, self.accounts(), self.boot(), named)?;
         Ok(self.port_by(alloc, named, &stop)?)

@@ -5,8 +5,8 @@ use Rattle.rsl_accounts.specs.Configuration.{Configuration}
 use Rattle.rld_state.proofs.state.ServerState.port_for.Goals as goal
 
 -- the Stop is of the session, by the accounts of the state
-pub returns : goal.returns
-returns g c =
+pub returns-clause-found : goal.returns-clause-found
+returns-clause-found g c =
     let same : c.accounts.result.now ≡ arc_value c.args.self.now.config = search rules in
     record {
       stop = c.in_ok-stop.stop;
