@@ -1,5 +1,5 @@
 -- The answers to asks, from what a turn did.
-use Rattle.std.proofs.Common.{◌≡◌, ◌<◌, ◌≤◌, ◌+◌, ℕ, zero, suc, Bool, true, false, List, [], ◌∷◌, ◌++◌, length, take, drop, append-nil, refl, sym, ap, subst, ◌∙◌, ◌⊎◌, inl, inr, arith}
+use Rattle.std.proofs.Common.{◌≡◌, ◌<◌, ◌+◌, ℕ, zero, suc, Bool, true, false, List, [], ◌∷◌, ◌++◌, length, take, drop, refl, sym, ap, subst, ◌∙◌, ◌⊎◌, inl, inr, arith}
 use Rattle.std.specs.Prelude.{map, slice_get, Option, Some, None, IfNone, IfSome, MatchOption, Vec}
 use Rattle.std.specs.List.{HoldsAt}
 use Rattle.std.specs.declared.alloc.Global.{Global}
@@ -8,7 +8,6 @@ use Rattle.std.specs.declared.net.socket_addr.SocketAddr.{SocketAddr}
 use Rattle.rld_ask.specs.Request.{ask_octets}
 use Rattle.rld_ask.specs.declared.asked.Answer.{Answer}
 use Rattle.rld_ask.specs.declared.form.AskForm.{AskForm}
-use Rattle.rld_ask.specs.declared.outcome.Outcome.{Outcome}
 use Rattle.rld_networks.specs.declared.network.Network.{Network}
 use Rattle.rld_store.specs.Recorded.{RecordedSeen}
 use Rattle.rld_turn.specs.Present.{peer_datagram}

@@ -1,33 +1,32 @@
 -- What an operator is told.
-use Rattle.std.specs.Prelude.{◌≡◌, ◌⊎◌, ⊤, ℕ, ◌+◌, List, ◌++◌, codes, length, slice_get, Option, Some, None, Result, Ok, Err}
+use Rattle.std.specs.Prelude.{◌≡◌, ℕ, ◌+◌, List, ◌++◌, codes, length, slice_get, Option, Some, None, Result, Ok, Err}
 use Rattle.rld_ask.specs.Reply.{lines_of}
 use Rattle.rld_attributes.specs.Listed.{attributes_of}
 use Rattle.rld_ask.specs.declared.asked.Answer.{Answer as AskAnswer}
 use Rattle.rld_ask.specs.declared.outcome.Outcome.{Outcome}
 use Rattle.rld_ask.specs.declared.outcome.Outcome.TheVariants as outcomes
-use Rattle.rld_control.specs.declared.command.Command.{Command}
-use Rattle.rld_control.specs.declared.command.Command.TheVariants as commands
-use Rattle.rld_control.specs.declared.named.NamedSession.{NamedSession}
 use Rattle.rsl_accounts.specs.Configuration.{Configuration, account_number}
 use Rattle.rsl_shard.specs.Restep.{BooksSeen}
 use Rattle.rld_state.specs.Listing.{AreHeldFrom}
 use Rattle.rld_state.specs.declared.listing.LinksPage.{LinksPage}
 use Rattle.rld_control.specs.declared.form.Form.{Form}
+use Rattle.rld_control.specs.declared.form.Form.TheVariants.{Lines, Json}
 use Rattle.rld_control.specs.declared.listing.Listing.{Listing}
 use Rattle.rld_control.specs.declared.form.Selection.{Selection}
 use Rattle.rld_lists.specs.Accounts.{accounts_text}
 use Rattle.rld_lists.specs.Links.{links_text}
 use Rattle.rld_lists.specs.Listing.{page_text}
 use Rattle.rld_look.specs.declared.look.AccountLook.{AccountLook}
+use Rattle.rld_look.specs.declared.look.Look.{Look}
+use Rattle.rld_look.specs.declared.health.Health.{Health}
+use Rattle.rld_text.specs.Ready.{ready_octets}
+use Rattle.rld_text.specs.Status.{IsStatus, status_object}
 use Rattle.rsl_accounts.specs.declared.entry.Entry.{Entry}
 use Rattle.rsl_session.specs.declared.saved.SavedLink.{SavedLink}
-use Rattle.rld_state.specs.Freeing.{TellsFreed, WasFreed, WereFreed}
-use Rattle.rld_state.specs.declared.freeing.Freed.TheVariants as freeds
 use Rattle.rld_state.specs.declared.reload_result.Reloaded.{Reloaded}
 use Rattle.rld_state.specs.declared.reload_result.ReloadFault.{ReloadFault}
-use Rattle.rld_serve.specs.AskFault.{octets_of_fault}
 use Rattle.rld_serve.specs.declared.ask_fault.AskFault.{AskFault}
-use Rattle.rld_serve.specs.declared.ask_fault.AskFault.TheVariants.{NotAccepted, NoMemory, Unrecorded}
+use Rattle.rld_serve.specs.declared.ask_fault.AskFault.TheVariants.{NotAccepted, NoMemory}
 
 -- an answer that says that something is done, and one that says that it is not
 pub record IsDone (octets : List ℕ) : Type 0 where
@@ -37,6 +36,19 @@ pub record IsDone (octets : List ℕ) : Type 0 where
 pub record IsRefused (octets : List ℕ) : Type 0 where
   pub text : List ℕ
   pub is : octets ≡ codes "error " ++ (text ++ codes "\n")
+
+-- the status of what a server shows, in a form
+abbrev pub IsStatusIn : Form → Look → (octets : List ℕ) → Type 0
+IsStatusIn Lines look octets = IsStatus look octets
+IsStatusIn Json look octets = octets ≡ status_object look
+
+pub record ShowsStatus (form : Form) (octets : List ℕ) : Type 0 where
+  pub look : Look
+  pub is : IsStatusIn form look octets
+
+pub record ShowsReady (octets : List ℕ) : Type 0 where
+  pub health : Health
+  pub is : octets ≡ ready_octets health
 
 -- what accounts hold, in a form
 pub record ShowsAccounts (form : Form) (selection : Selection) (octets : List ℕ) : Type 0 where
@@ -90,37 +102,3 @@ TellsAccepted answer octets =
 abbrev pub IsUntold : Outcome → AskFault → Type 0
 IsUntold outcomes.Accepted fault = fault ≡ NoMemory
 IsUntold outcome fault = fault ≡ NotAccepted outcome
-
--- ---- the answer to a command
-
--- the session that a command has disconnected, if it does that
-abbrev pub session_of : Command → Option NamedSession
-session_of (commands.Disconnect named) = Some named
-session_of _ = None
-
--- such octets are its answer; one that has a session disconnected has none at once
-abbrev pub Answers : Command → (octets : List ℕ) → Type 0
-Answers (commands.Accounts form selection) octets = ShowsAccounts form selection octets
-Answers (commands.Sessions form name) octets = ShowsSessions form name octets
-Answers (commands.Links listing) octets = ShowsPage listing octets
-Answers (commands.Free named) octets = TellsFreed (WasFreed named) octets
-Answers (commands.FreeServer named) octets = TellsFreed (WereFreed named) octets
-Answers (commands.Disconnect named) octets = ⊥
-Answers _ octets = ⊤
-
--- such a fault is why it is not done: a session is called not recorded only where it was not
-abbrev pub IsFaultFor : Command → AskFault → Type 0
-IsFaultFor (commands.Free named) fault = fault ≡ Unrecorded → WasFreed named freeds.Unrecorded
-IsFaultFor (commands.FreeServer named) fault = fault ≡ Unrecorded → WereFreed named freeds.Unrecorded
-IsFaultFor (commands.Disconnect named) fault = ⊥
-IsFaultFor _ fault = ⊤
-
--- it was not done, and why is told
-pub record IsToldWhyNot (command : Command) (octets : List ℕ) : Type 0 where
-  pub fault : AskFault
-  pub why : IsFaultFor command fault
-  pub told : octets ≡ octets_of_fault fault
-
--- such octets are told whoever gave the command
-abbrev pub IsHeardOf : Command → (octets : List ℕ) → Type 0
-IsHeardOf command octets = Answers command octets ⊎ IsToldWhyNot command octets

@@ -1,6 +1,6 @@
 -- Sessions that their access servers are to disconnect.
-use Rattle.std.specs.Prelude.{◌≡◌, ◌⊎◌, ⊤, ℕ, List, Result, Ok, Err, IfErr, IfOk, None}
-use Rattle.rsl_accounts.specs.Configuration.{Configuration, account_number, client_number}
+use Rattle.std.specs.Prelude.{◌≡◌, ◌⊎◌, ℕ, List, Result, Ok, Err, IfErr, IfOk}
+use Rattle.rsl_accounts.specs.Configuration.{Configuration}
 use Rattle.rld_control.specs.Disconnecting.{answer_octets}
 use Rattle.rld_control.specs.declared.disconnected.Disconnected.{Disconnected}
 use Rattle.rld_control.specs.declared.disconnected.Disconnected.TheVariants.{Done, Unrecorded, Refused}
@@ -15,22 +15,8 @@ use Rattle.rld_state.specs.Freeing.{WasFreed}
 use Rattle.rld_state.specs.declared.freeing.Freed.{Freed}
 use Rattle.rld_state.specs.declared.freeing.Freed.TheVariants as freeds
 use Rattle.rld_serve.specs.AskFault.{octets_of_fault}
+use Rattle.rld_serve.specs.Refusing.{IsUnknownIn}
 use Rattle.rld_serve.specs.declared.ask_fault.AskFault.TheVariants.{NoMemory}
-
--- the accounts have no account of this name, or no such client
-pub record HasNoAccount (named : NamedSession) : Type 0 where
-  pub config : Configuration
-  pub unknown : account_number config named.account ≡ None
-
-pub record HasNoClient (named : NamedSession) : Type 0 where
-  pub config : Configuration
-  pub unknown : client_number config named.client ≡ None
-
--- an account or a client is called unknown only where some accounts have none
-abbrev pub IsUnknownIn : NamedSession → FreeFault → Type 0
-IsUnknownIn named UnknownAccount = HasNoAccount named
-IsUnknownIn named UnknownClient = HasNoClient named
-IsUnknownIn named _ = ⊤
 
 -- the request for a session went to this port, by these accounts and some books
 pub record WentTo (config : Configuration) (named : NamedSession) (port : ℕ) : Type 0 where

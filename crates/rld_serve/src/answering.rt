@@ -5,10 +5,11 @@ ghost use Rattle.std.specs.Arc.{arc_value};
 ghost use Rattle.rld_control.specs.Reply.{reply_octets};
 ghost use Rattle.rld_state.specs.Freeing.{TellsFreed, WasFreed, WereFreed, octets_of_freed};
 ghost use Rattle.rld_state.specs.declared.freeing.Freed.TheVariants as outcomes;
-ghost use Rattle.rld_serve.specs.Answering.{Answers, IsFaultFor, IsPageFrom, IsHeardOf, ShowsAccounts, ShowsPage, ShowsSessions, session_of};
-ghost use Rattle.rld_serve.specs.Disconnecting.{IsUnknownIn};
+ghost use Rattle.rld_serve.specs.Answering.{IsPageFrom, ShowsAccounts, ShowsPage, ShowsReady, ShowsSessions, ShowsStatus};
+ghost use Rattle.rld_serve.specs.Commands.{Answers, IsFaultFor, IsHeardOf, session_of};
 ghost use Rattle.rld_serve.specs.Hearing.{HasHeardOne};
-ghost use Rattle.rld_serve.specs.declared.ask_fault.AskFault.TheVariants.{NoMemory, Unrecorded};
+ghost use Rattle.rld_serve.specs.Refusing.{HasNoAccount, IsUnknownIn, IsUnknownServer, IsWhyNoPage, IsWhyNoSessions, IsWhyNotFreed};
+ghost use Rattle.rld_serve.specs.declared.ask_fault.AskFault.TheVariants.{NoMemory};
 ghost use Rattle.rsl_accounts.specs.Configuration.{account_number};
 
 use crate::accounts::Accounts;
@@ -95,7 +96,8 @@ where
     /// Does a command, and has the operator hear the answer, unless that comes later.
     fn do_command<H: Hear>(&self, operator: &mut H, command: &Command) -> Heard
         ensures now { result ≡ Heard.Now →
-            HasHeardOne (IsHeardOf command.now) (H.heard operator.old) (H.heard operator.new) }
+            HasHeardOne (IsHeardOf self.now.plan.networks.now self.now.seat command.now)
+            (H.heard operator.old) (H.heard operator.new) }
         ensures later { result ≡ Heard.Later → H.heard operator.new ≡ H.heard operator.old }
         ensures named { result ≡ Heard.Later → session_of command.now ≡ None → ⊥ }
     {
@@ -117,7 +119,7 @@ where
     fn answer_to(&self, command: &Command) -> Option<Result<Vec<u8>, AskFault>>
         ensures later { IfNone result (session_of command.now ≡ None → ⊥) }
         ensures done { IfSome result (λ answer.
-            IfOk answer (λ octets. Answers command.now octets.items)) }
+            IfOk answer (λ octets. Answers self.now.plan.networks.now self.now.seat command.now octets.items)) }
         ensures fault { IfSome result (λ answer. IfErr answer (IsFaultFor command.now)) }
     {
         Some(match command {
@@ -149,13 +151,19 @@ where
     }
 
     /// The answer to `status`.
-    fn status(&self, form: Form) -> Result<Vec<u8>, AskFault> {
+    fn status(&self, form: Form) -> Result<Vec<u8>, AskFault>
+        ensures shown { IfOk result (λ octets. ShowsStatus form octets.items) }
+        ensures fault { IfErr result (λ fault. fault ≡ NoMemory) }
+    {
         let look = self.look()?;
         Ok(status_of(self.alloc, form, &look)?)
     }
 
     /// The answer to `ready`. No lock is taken for it.
-    fn ready(&self) -> Result<Vec<u8>, AskFault> {
+    fn ready(&self) -> Result<Vec<u8>, AskFault>
+        ensures shown { IfOk result (λ octets. ShowsReady octets.items) }
+        ensures fault { IfErr result (λ fault. fault ≡ NoMemory) }
+    {
         let behind = self.clock_behind.load(Ordering::SeqCst);
         let health = Health::of(self.recording(), behind);
         Ok(ready_text(self.alloc, health)?)
@@ -163,7 +171,8 @@ where
 
     /// The answer to `accounts`.
     fn accounts(&self, form: Form, selection: Selection) -> Result<Vec<u8>, AskFault>
-        ensures { IfOk result (λ octets. ShowsAccounts form selection octets.items) }
+        ensures shown { IfOk result (λ octets. ShowsAccounts form selection octets.items) }
+        ensures fault { IfErr result (λ fault. fault ≡ NoMemory) }
     {
         let look = self.accounts_look()?;
         let accounts = look.accounts.as_slice();
@@ -177,7 +186,8 @@ where
 
     /// The answer to `sessions`: the links of the account with this name.
     fn sessions(&self, form: Form, name: &[u8]) -> Result<Vec<u8>, AskFault>
-        ensures { IfOk result (λ octets. ShowsSessions form name.now octets.items) }
+        ensures shown { IfOk result (λ octets. ShowsSessions form name.now octets.items) }
+        ensures fault { IfErr result (IsWhyNoSessions name.now) }
     {
         let Some(Held { config, held }) = self.held_by(name)? else {
             return Err(AskFault::UnknownAccount);
@@ -199,6 +209,8 @@ where
             account_number (arc_value held.config) name.now ≡ Some held.held.account)) }
         ensures within { IfOk result (λ found. IfSome found (λ held.
             held.held.account < length (arc_value held.config).accounts)) }
+        ensures none { IfOk result (λ found. IfNone found (HasNoAccount name.now)) }
+        ensures fault { IfErr result (λ fault. fault ≡ NoMemory) }
     {
         let state = self.state.lock(self.rt);
         let config = state.config()?;
@@ -211,7 +223,8 @@ where
     /// The answer to `links`: a page of the links of all accounts, made of a copy. The accounts have
     /// changed where no account has the name with which the page begins: an earlier page had it.
     fn links(&self, listing: &Listing) -> Result<Vec<u8>, AskFault>
-        ensures { IfOk result (λ octets. ShowsPage listing.now octets.items) }
+        ensures shown { IfOk result (λ octets. ShowsPage listing.now octets.items) }
+        ensures fault { IfErr result (IsWhyNoPage listing.now.from) }
     {
         let HeldPage { config, page } = self.page_from(&listing.from)?;
         let shown = Shown {
@@ -226,8 +239,9 @@ where
     /// A page of what all accounts hold that begins with the account of this name, or with the
     /// first one. The lock is held while the page is copied, and no longer.
     fn page_from(&self, from: &Option<Octets>) -> Result<HeldPage, AskFault>
-        ensures { IfOk result (λ found.
+        ensures page { IfOk result (λ found.
             IsPageFrom (arc_value found.config) from.now found.page) }
+        ensures fault { IfErr result (IsWhyNoPage from.now) }
     {
         let state = self.state.lock(self.rt);
         let config = state.config()?;
@@ -244,10 +258,11 @@ where
 
     /// Frees the place of a session by the Stop that its access server would have sent. If no link
     /// is bound to the session, nothing is recorded.
+    #[tactic(auto, using(crate::proofs::Freed::why_not))]
     fn free(&self, named: &NamedSession) -> Result<Vec<u8>, AskFault>
         ensures freed { IfOk result (λ octets. TellsFreed (WasFreed named.now) octets.items) }
-        ensures unrecorded { IfErr result (λ fault. fault ≡ Unrecorded →
-            WasFreed named.now outcomes.Unrecorded) }
+        ensures fault { IfErr result (IsWhyNotFreed (WasFreed named.now outcomes.Unrecorded)
+            (IsUnknownIn named.now)) }
     {
         let freed = self.freed(named)?;
         self.told_freed(&freed)
@@ -255,10 +270,11 @@ where
 
     /// Frees the places of all sessions of an access server by the Accounting-Off that it would have
     /// sent.
+    #[tactic(auto, using(crate::proofs::Freed::why_not))]
     fn free_server(&self, named: &NamedServer) -> Result<Vec<u8>, AskFault>
         ensures freed { IfOk result (λ octets. TellsFreed (WereFreed named.now) octets.items) }
-        ensures unrecorded { IfErr result (λ fault. fault ≡ Unrecorded →
-            WereFreed named.now outcomes.Unrecorded) }
+        ensures fault { IfErr result (IsWhyNotFreed (WereFreed named.now outcomes.Unrecorded)
+            (IsUnknownServer named.now)) }
     {
         let freed = self.server_freed(named)?;
         self.told_freed(&freed)
@@ -267,8 +283,7 @@ where
     /// The answer to what came of that. `Unrecorded` comes where it was not recorded.
     fn told_freed(&self, freed: &Freed) -> Result<Vec<u8>, AskFault>
         ensures freed { IfOk result (λ octets. Some octets.items ≡ octets_of_freed freed.now) }
-        ensures unrecorded { IfErr result (λ fault. fault ≡ Unrecorded →
-            freed.now ≡ outcomes.Unrecorded) }
+        ensures fault { IfErr result (IsWhyNotFreed (freed.now ≡ outcomes.Unrecorded) (λ _. ⊥)) }
     {
         match freed.reply() {
             Some(reply) => self.told(reply),
@@ -278,7 +293,8 @@ where
 
     /// Frees the places of all sessions of an access server, and gives the outcome.
     fn server_freed(&self, named: &NamedServer) -> Result<Freed, FreeFault>
-        ensures { IfOk result (WereFreed named.now) }
+        ensures freed { IfOk result (WereFreed named.now) }
+        ensures fault { IfErr result (IsUnknownServer named.now) }
     {
         let moment = self.moment();
         self.state

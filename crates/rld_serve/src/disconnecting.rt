@@ -1,11 +1,12 @@
 //! Sessions that their access servers are to disconnect (RFC 5176). One worker sends the requests and takes
 //! the answers, of several at once, so that no other waits for an access server.
 
-ghost use Rattle.std.specs.Prelude.{◌≡◌, IfOk};
+ghost use Rattle.std.specs.Prelude.{◌≡◌, IfErr, IfOk};
 ghost use Rattle.std.specs.Arc.{arc_value};
 ghost use Rattle.rld_control.specs.declared.disconnected.Disconnected.TheVariants.{Unanswered};
 ghost use Rattle.rld_serve.specs.Disconnecting.{IsOutcomeOf, TellsOutcome, TellsOutcomeOf, WentTo, after_ack};
 ghost use Rattle.rld_serve.specs.Hearing.{HasHeardOne};
+ghost use Rattle.rld_serve.specs.Refusing.{IsWhyNotOrdered};
 
 use crate::accounts::Accounts;
 use crate::ask_fault::AskFault;
@@ -55,7 +56,8 @@ where
 
     /// The accounts, and the port that a request for this session goes to, if it may be disconnected.
     fn orderable(&self, named: &NamedSession) -> Result<(Arc<Config>, u16), AskFault>
-        ensures { IfOk result (λ found. WentTo (arc_value found.0) named.now found.1) }
+        ensures goes { IfOk result (λ found. WentTo (arc_value found.0) named.now found.1) }
+        ensures fault { IfErr result (IsWhyNotOrdered named.now) }
     {
         let state = self.state.lock(self.rt);
         let config = state.config()?;

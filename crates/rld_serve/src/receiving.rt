@@ -88,6 +88,8 @@ where
         port: Port,
         place: &mut Place<'_, 'a, R>,
     ) -> Result<Next, RunFault>
+        requires { place.old.receiver.receiver.port ≡ port }
+        ensures port { place.new.receiver.receiver.port ≡ port }
         ensures goes_on { place.old.recorder.has_ended ≡ false →
             OnOk result (place.new.recorder.has_ended ≡ false) }
         ensures ends { place.old.recorder.has_ended ≡ false →

@@ -1,11 +1,12 @@
 //! Reading the accounts of a running server again.
 
-ghost use Rattle.std.specs.Prelude.{◌≡◌, ℕ, All, IfNone, IfOk, IfSome, OnErr, OnOk, length, map};
+ghost use Rattle.std.specs.Prelude.{◌≡◌, ◌⊎◌, ℕ, All, IfErr, IfNone, IfOk, IfSome, OnErr, OnOk, length, map};
 ghost use Rattle.std.specs.Arc.{arc_value};
 ghost use Rattle.rld_spelling.specs.Tables.{client_row, table_of};
 ghost use Rattle.rld_start.specs.NextHeaders.{generation_named};
 ghost use Rattle.rld_state.specs.Headers.{IsHeaderOf};
-ghost use Rattle.rld_serve.specs.Answering.{IsRefused, TellsChange};
+ghost use Rattle.rld_serve.specs.Answering.{IsDone, IsRefused, TellsChange};
+ghost use Rattle.rld_serve.specs.declared.ask_fault.AskFault.TheVariants.{NoMemory};
 
 use crate::accounts::{Accounts, AccountsFault};
 use crate::ask_fault::AskFault;
@@ -51,7 +52,10 @@ where
     /// Reads the accounts again, and goes on with them: within the present era if it has their
     /// table, and else in a new one. Gives the answer to the operator. If it is `error`, nothing
     /// has changed.
-    pub(crate) fn reload(&self) -> Result<Vec<u8>, AskFault> {
+    pub(crate) fn reload(&self) -> Result<Vec<u8>, AskFault>
+        ensures told { IfOk result (λ octets. IsDone octets.items ⊎ IsRefused octets.items) }
+        ensures fault { IfErr result (λ fault. fault ≡ NoMemory) }
+    {
         let config = match self.accounts.read(self.alloc) {
             Ok(config) => config,
             Err(AccountsFault::Wrong(text)) => return self.refusal(&text),
@@ -66,7 +70,8 @@ where
 
     /// The answer once accounts were read: with what era they go on, or why they are as they were.
     fn told_change(&self, changed: Result<Reloaded, ReloadFault>) -> Result<Vec<u8>, AskFault>
-        ensures { IfOk result (λ octets. TellsChange changed octets.items) }
+        ensures told { IfOk result (λ octets. TellsChange changed octets.items) }
+        ensures fault { IfErr result (λ fault. fault ≡ NoMemory) }
     {
         match changed {
             Ok(reloaded) => {
@@ -79,7 +84,8 @@ where
 
     /// The answer to a command that is not done.
     fn refusal<T: fmt::Display>(&self, why: &T) -> Result<Vec<u8>, AskFault>
-        ensures { IfOk result (λ octets. IsRefused octets.items) }
+        ensures told { IfOk result (λ octets. IsRefused octets.items) }
+        ensures fault { IfErr result (λ fault. fault ≡ NoMemory) }
     {
         let why = format!(in self.alloc; "{why}")?;
         self.told(Reply::Refused(why.as_bytes()))

@@ -1,4 +1,5 @@
-ghost use Rattle.std.specs.Prelude.{◌≡◌, false};
+ghost use Rattle.std.specs.Prelude.{◌≡◌, ◌||◌, false};
+ghost use Rattle.rld_store.specs.Recorded.{is_ended};
 
 use rld_log::Log;
 use rld_state::ServerState;
@@ -30,6 +31,17 @@ impl<'a, L: Log + Drop, R: Wait> SharedRecorder<'a, L, R> {
         }
     }
 
+    /// Notes whether this outcome of a batch says that nothing more can be recorded, and gives it.
+    fn noted(&mut self, outcome: Result<Recorded, RecordFault>) -> Result<Recorded, RecordFault>
+        ensures outcome { result ≡ outcome }
+        ensures ended { self.new.has_ended ≡ (self.old.has_ended || is_ended outcome) }
+    {
+        if let Err(RecordFault::Ended) = outcome {
+            self.has_ended = true;
+        }
+        outcome
+    }
+
     /// Whether a batch of any worker was not recorded since the last call.
     pub(crate) fn take_failed(&self) -> bool {
         self.state.lock(self.rt).take_failed()
@@ -46,13 +58,6 @@ impl<L: Log + Drop, R: Wait> Recorder for SharedRecorder<'_, L, R> {
         batch: Vec<Move>,
     ) -> Result<Recorded, RecordFault> {
         let outcome = self.state.lock(self.rt).record(alloc, era, batch);
-        match outcome {
-            Ok(recorded) => Ok(recorded),
-            Err(RecordFault::Failed) => Err(RecordFault::Failed),
-            Err(RecordFault::Ended) => {
-                self.has_ended = true;
-                Err(RecordFault::Ended)
-            }
-        }
+        self.noted(outcome)
     }
 }

@@ -1,7 +1,7 @@
 //! The status, in the form that an operator asks for.
 
-ghost use Rattle.std.specs.Prelude.{◌≡◌, IfOk};
-ghost use Rattle.rld_text.specs.Status.{IsStatus, status_object};
+ghost use Rattle.std.specs.Prelude.{IfOk};
+ghost use Rattle.rld_serve.specs.Answering.{IsStatusIn};
 
 use rld_control::Form;
 use rld_look::Look;
@@ -10,9 +10,7 @@ use std::alloc::{AllocError, Global};
 
 /// The status of a server that shows this, in this form. It fails only if memory is refused.
 pub(crate) fn status_of(alloc: Global, form: Form, look: &Look) -> Result<Vec<u8>, AllocError>
-    ensures lines { form ≡ Form.Lines → IfOk result (λ text. IsStatus look.entry.now text.items) }
-    ensures json { form ≡ Form.Json → IfOk result (λ text.
-        text.items ≡ status_object look.entry.now) }
+    ensures { IfOk result (λ text. IsStatusIn form look.entry.now text.items) }
 {
     match form {
         Form::Lines => status_text(alloc, look),

@@ -1,4 +1,4 @@
-use Rattle.std.proofs.Common.{◌≡◌, ◌++◌, ◌∷◌, [], ℕ, List, take}
+use Rattle.std.proofs.Common.{◌≡◌, take}
 use Rattle.std.specs.Prelude.{map, slice_get, IfSome}
 use Rattle.rld_ask.specs.Request.{ask_octets}
 use Rattle.rld_ask.specs.declared.form.AskForm.{AskForm}
