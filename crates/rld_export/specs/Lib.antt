@@ -1,3 +1,4 @@
+pub mod Moments
 pub mod Saved
 pub mod Sessions
 pub mod Text

@@ -1,6 +1,6 @@
 //! The sessions of all accounts over the moves of one generation.
 
-ghost use Rattle.std.specs.Prelude.{◌<◌, length};
+ghost use Rattle.std.specs.Prelude.{◌≡◌, ◌<◌, length, max};
 
 use crate::account::Account;
 use crate::looking::{found, push_gone};
@@ -181,7 +181,9 @@ impl Following {
     }
 
     /// Comes to the moment of a tick or a restart.
-    fn come_to(&mut self, moment: u64) {
+    fn come_to(&mut self, moment: u64)
+        ensures { self.new ≡ record self.old { clock = max self.old.clock moment; latest = max self.old.latest moment } }
+    {
         self.clock = self.clock.max(moment);
         self.latest = self.latest.max(moment);
     }

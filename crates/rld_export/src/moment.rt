@@ -1,7 +1,9 @@
 //! Reading a moment that somebody names.
 
-ghost use Rattle.std.specs.Prelude.{◌≡◌, IfOk, IfSome, List, ℕ};
-ghost use Rattle.rld_values.specs.Dates.{AreDates, date_or_number, http_date};
+ghost use Rattle.std.specs.Prelude.{◌≡◌, IfOk, IfSome, IsTrue, List, ℕ};
+ghost use Rattle.std.specs.List.{list_all};
+ghost use Rattle.rld_export.specs.Moments.{IsNamed, is_digit, number_in, printed};
+ghost use Rattle.rld_values.specs.Dates.{AreDates};
 
 use rld_values::push_date;
 use rsl_wire::NoMemory;
@@ -11,7 +13,10 @@ use std::alloc::Global;
 const DAYS_BEFORE: [u64; 12] = [0, 31, 59, 90, 120, 151, 181, 212, 243, 273, 304, 334];
 
 /// The number of decimal digits, or `None` if they are none, or over 2^64 - 1.
-fn number_of(digits: &[u8]) -> Option<u64> {
+fn number_of(digits: &[u8]) -> Option<u64>
+    ensures number { IfSome result (λ number. number ≡ number_in digits.now) }
+    ensures digits { IfSome result (λ _. IsTrue (list_all is_digit digits.now)) }
+{
     let mut number = 0u64;
     for octet in digits {
         let digit = match *octet {
@@ -77,7 +82,7 @@ fn guess(text: &[u8]) -> Option<u64> {
 /// `2026-11-26 18:20:00`, or `None` if no second has it.
 fn second_of(alloc: Global, text: &str) -> Result<Option<u64>, NoMemory>
     ensures { IfOk result (λ found. IfSome found (λ second. (dates : ℕ → List ℕ) → AreDates dates →
-        text.now ≡ date_or_number (http_date dates second) second)) }
+        text.now ≡ printed dates second)) }
 {
     let Some(second) = guess(text.as_bytes()) else {
         return Ok(None);
@@ -94,7 +99,10 @@ fn second_of(alloc: Global, text: &str) -> Result<Option<u64>, NoMemory>
 /// The second since 1970 that a text names: a date and a time of UTC as they are printed, such as
 /// `2026-11-26 18:20:00`; a date alone, for its first second; or the number of the second. `None`
 /// if it names none. It fails only if memory is refused.
-pub fn read_moment(alloc: Global, text: &str) -> Result<Option<u64>, NoMemory> {
+pub fn read_moment(alloc: Global, text: &str) -> Result<Option<u64>, NoMemory>
+    ensures { IfOk result (λ found. IfSome found (λ second. (dates : ℕ → List ℕ) → AreDates dates →
+        IsNamed dates text.now second)) }
+{
     match text.len() {
         0 => Ok(None),
         10 if text.as_bytes()[4] == b'-' => {
