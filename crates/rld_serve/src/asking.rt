@@ -18,6 +18,7 @@ ghost use Rattle.rld_serve.specs.Asking.{
 };
 ghost use Rattle.rld_serve.specs.Following.{IsFaultOf};
 ghost use Rattle.rld_serve.specs.Noting.{noted_if};
+ghost use Rattle.rld_edges.specs.declared.fault.RunFault.TheVariants as run_faults;
 ghost use Rattle.rld_serve.specs.declared.ask_fault.AskFault.TheVariants.{NoMemory as refused};
 ghost use Rattle.rsl_event.specs.declared.meaning.Port.TheVariants.{Auth};
 
@@ -153,8 +154,9 @@ where
 {
     /// What takes asks, if the server's file says that they come in.
     fn ask_place(&self) -> Result<Option<Place<'_, 'a, R>>, RunFault>
-        ensures { IfOk result (λ found. IfSome found (λ place.
+        ensures client { IfOk result (λ found. IfSome found (λ place.
             client_of self.now.seat ≡ Some place.client)) }
+        ensures fault { IfErr result (λ fault. fault ≡ run_faults.NoMemory) }
     {
         let Some(seat) = self.seat else {
             return Ok(None);

@@ -1,6 +1,6 @@
 //! Reading the accounts of a running server again.
 
-ghost use Rattle.std.specs.Prelude.{◌≡◌, ◌⊎◌, ℕ, All, IfErr, IfNone, IfOk, IfSome, OnErr, OnOk, length, map};
+ghost use Rattle.std.specs.Prelude.{◌≡◌, ◌⊎◌, ℕ, All, IfErr, IfNone, IfOk, IfSome, IsErrOf, OnErr, OnOk, length, map};
 ghost use Rattle.std.specs.Arc.{arc_value};
 ghost use Rattle.rld_spelling.specs.Tables.{client_row, table_of};
 ghost use Rattle.rld_start.specs.NextHeaders.{generation_named};
@@ -104,6 +104,7 @@ where
 
     /// Prepares a change from these accounts to other ones.
     fn change_to(&self, former: &Config, config: Config) -> Result<Change, ReloadFault>
+        ensures fault { IsErrOf result ReloadFault.Changed → ⊥ }
         ensures config { IfOk result (λ change. arc_value change.config ≡ config) }
         ensures held { IfOk result (λ change. arc_value change.held ≡ config) }
         ensures table { IfOk result (λ change. IfSome change.next
@@ -204,6 +205,8 @@ where
         ensures config { OnOk result (current.new.config ≡ change.config) }
         ensures header { IfSome change.next (λ next. OnOk result (current.new.header ≡ next.header)) }
         ensures err { OnErr result (current.new ≡ current.old) }
+        ensures goes_on { IfNone change.next (IfErr result (λ fault. fault ≡ ReloadFault.Changed)) }
+        ensures begins { IfSome change.next (λ _. IsErrOf result ReloadFault.Changed → ⊥) }
     {
         let Change {
             config,
@@ -236,6 +239,8 @@ where
             changed.1.boot ≡ self.now.plan.boot)) }
         ensures header { IfSome next (λ next. IfOk result (λ changed.
             changed.1.header ≡ next.header)) }
+        ensures goes_on { IfNone next (IfErr result (λ fault. fault ≡ ReloadFault.Changed)) }
+        ensures begins { IfSome next (λ _. IsErrOf result ReloadFault.Changed → ⊥) }
     {
         let mut state = self.state.lock(self.rt);
         let Some(next) = next else {
