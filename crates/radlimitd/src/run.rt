@@ -212,6 +212,7 @@ fn web_of<N: Net<Listener = TcpListener, Stream = TcpStream>>(
     web: Option<rld_config::Web>,
 ) -> Result<Option<Web>, Fault>
     ensures none { IfNone web (IfOk result (λ page. page ≡ None)) }
+    ensures some { IfSome web (λ _. IfOk result (λ page. page ≡ None → ⊥)) }
     ensures address { IfSome web (λ wanted. IfOk result (λ page. IfSome page (λ page.
         ipv4_octets (v4_ip page.place) ≡ wanted.address))) }
     ensures port { IfSome web (λ wanted. IfOk result (λ page. IfSome page (λ page.
