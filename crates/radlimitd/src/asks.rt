@@ -1,5 +1,7 @@
 //! Where asks come in, by the server's file.
 
+ghost use Rattle.std.specs.Prelude.{◌≡◌, IfNone, IfOk, IfSome, None};
+
 use rld_ask::Asks;
 use rld_commands::{Fault, token_in};
 use rld_config::{AskSettings, ServerFile};
@@ -20,6 +22,9 @@ pub(crate) fn asks_of<R>(
 ) -> Result<Option<Asks>, Fault>
 where
     R: Files + Net<Listener = TcpListener, Stream = TcpStream>,
+    ensures none { IfNone server.now.ask (IfOk result (λ asks. asks ≡ None)) }
+    ensures client { IfSome server.now.ask (λ wanted. IfOk result (λ asks.
+        IfSome asks (λ asks. asks.client ≡ wanted.client))) }
 {
     let (Some(ask), Some(path)) = (&server.ask, path) else {
         return Ok(None);
