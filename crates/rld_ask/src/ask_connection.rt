@@ -354,14 +354,14 @@ impl AskConnection {
         self.respond(outcome.status(), text.as_slice(), now)
     }
 
-    /// Whether it is done with.
+    /// Whether it has ended.
     pub(crate) fn has_ended(&self) -> bool
         ensures { result ≡ has_ended self.now.phase }
     {
         matches!(self.phase, Phase::Ends)
     }
 
-    /// Is done with it.
+    /// Ends it: it is closed in the next turn.
     pub(crate) fn end(&mut self)
         ensures { self.new ≡ record self.old { phase = Ends } }
     {
