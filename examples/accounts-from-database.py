@@ -37,12 +37,6 @@ import typing
 
 # the head of the account file: see the manual page radlimit-accounts(5)
 HEAD = """version = 3
-shards = 2
-reserve_secs = 60
-live_secs = 900
-grace_secs = 900
-closed_secs = 3600
-keep_secs = 15
 """
 ACCOUNTS = re.compile(r'^accounts\s*=\s*"([^"\\\n]*)"', re.M)
 # each in the order of a key that does not change: another order of the same accounts would begin a new era for nothing
@@ -58,7 +52,7 @@ ATTRIBUTES = {
 # a word, which the server takes for a value of any form; what is no word is a text
 WORD = re.compile(r"[A-Za-z0-9.:/_-]+")
 # what `radlimitd check` says of an attribute of a list: whose it is, its place, and why it is wrong
-BAD_REPLY = re.compile(r"bad file: BadReply (profile|account) (\".*\") (\d+): (.*)$", re.M)
+BAD_REPLY = re.compile(r": reply (\d+) of (?:account (\S+)|profile (\".*\")): (.*)$", re.M)
 OF_THE_NAME = ("unknown name", "set by the server")  # reasons that no other value would mend
 
 
@@ -78,12 +72,12 @@ class Reply(typing.NamedTuple):
         """The name of its attribute, as others are compared with it."""
         return self.attribute.lower()
 
-    def text(self):
+    def text(self, op="="):
         """The attribute as a list of the account file has it."""
         value = self.value
         if len(value) > 1 and value[0] == value[-1] and value[0] in "\"'":
             value = value[1:-1]
-        return f"{self.attribute} = {value}" if WORD.fullmatch(value) else f'{self.attribute} = "{value}"'
+        return f"{self.attribute} {op} {value}" if WORD.fullmatch(value) else f'{self.attribute} {op} "{value}"'
 
     def fault(self, columns):
         """Why it has no place beside columns of its account, as far as the server does not say that."""
@@ -162,12 +156,13 @@ class Tables:
         """The account file of all that has a place, and its lists by the names that the server has for them."""
         parts, lists = [HEAD], {}
 
-        def table_of(head, keys, part=None, name=None, replies=None):
-            """Adds a table, with a list if it has one."""
+        def table_of(head, keys, part=None, name=None, replies=None, beside=()):
+            """Adds a table, with a list if it has one, of which those are added whose names stand `beside` it."""
             lines = [f"{key} = {value_of(key, value)}" for key, value in keys.items() if value is not None]
             if replies is not None:
                 kept = lists[part, string_of(name)] = [reply for reply in replies if reply not in self.wrong]
-                lines.append(f"reply = [{', '.join(string_of(reply.text()) for reply in kept)}]")
+                texts = [string_of(reply.text("+=" if reply.key() in beside else "=")) for reply in kept]
+                lines.append(f"reply = [{', '.join(texts)}]")
             parts.append("\n".join([f"\n{head}", *lines, ""]))
 
         for name, group in sorted(self.groups.items()):
@@ -176,7 +171,9 @@ class Tables:
             table_of("[[client]]", row)
         for name, row in self.accounts.items():
             profile, own = self.lists(name)
-            table_of("[[account]]", row | {"profile": profile}, "account", name, own or None)
+            # what both send is sent twice: `lists` has left out what one of them replaces
+            beside = {reply.key() for reply in self.groups.get(profile, [])}
+            table_of("[[account]]", row | {"profile": profile}, "account", name, own or None, beside)
         return "".join(parts), lists
 
     def refuse(self, replies, place, why):
@@ -226,14 +223,18 @@ def checked(program, tables, server, accounts, name, made):
         words = [program, "check", made[1]]
         run = subprocess.run(words, stdout=subprocess.DEVNULL, stderr=subprocess.PIPE, check=False, text=True)
         bad = BAD_REPLY.search(run.stderr)
-        if not bad or (bad[1], bad[2]) not in lists:
+        key = bad and (("account", string_of(bad[2])) if bad[2] else ("profile", bad[3]))
+        if key not in lists:
             return run.stderr, run.returncode
-        tables.refuse(lists[bad[1], bad[2]], int(bad[3]), bad[4])
+        tables.refuse(lists[key], int(bad[1]), bad[4])
         while made:
             os.remove(made.pop())
 
 
 def main():
+    if {"--help", "-h"} & set(sys.argv[1:]):
+        print(__doc__)
+        return
     if len(sys.argv) not in (3, 4):
         sys.exit(__doc__)
     database, name, *rest = sys.argv[1:]

@@ -21,19 +21,18 @@ stop_all() {
 }
 trap 'stop_all; rm -rf "$folder"' EXIT
 
-. "$top/examples/radclient.bash"
+. "$top/tests/lib/radclient.bash"
 
 # A certificate of an authority, for 127.0.0.1: certificate AUTHORITY NAME
 certificate() {
-    openssl req -newkey rsa:2048 -nodes -subj "/CN=$2" -keyout "$folder/$2.key" -out "$folder/$2.csr" 2> /dev/null
-    openssl x509 -req -days 2 -in "$folder/$2.csr" -CA "$folder/$1.crt" -CAkey "$folder/$1.key" -CAcreateserial \
-        -extfile <(echo 'subjectAltName = IP:127.0.0.1') -out "$folder/$2.crt" 2> /dev/null
+    quietly openssl req -newkey rsa:2048 -nodes -subj "/CN=$2" -keyout "$folder/$2.key" -out "$folder/$2.csr"
+    quietly openssl x509 -req -days 2 -in "$folder/$2.csr" -CA "$folder/$1.crt" -CAkey "$folder/$1.key" -CAcreateserial \
+        -extfile <(echo 'subjectAltName = IP:127.0.0.1') -out "$folder/$2.crt"
 }
 
 # An authority that signs certificates.
 authority() {
-    openssl req -x509 -newkey rsa:2048 -nodes -days 2 -subj "/CN=$1" -keyout "$folder/$1.key" -out "$folder/$1.crt" \
-        2> /dev/null
+    quietly openssl req -x509 -newkey rsa:2048 -nodes -days 2 -subj "/CN=$1" -keyout "$folder/$1.key" -out "$folder/$1.crt"
 }
 
 # What a radsecproxy says of itself, and whom it believes: tls_of NAME
@@ -51,12 +50,6 @@ END
 write_files() {
     cat > "$folder/accounts.toml" << 'END'
 version = 3
-shards = 2
-reserve_secs = 60
-live_secs = 900
-grace_secs = 900
-closed_secs = 3600
-keep_secs = 15
 
 [[client]]
 address = "127.0.0.1"                   # the radsecproxy beside it
@@ -66,7 +59,6 @@ secret = "secret-of-this-machine-alone"
 name = "nemo"
 password = "arctangent"
 places = 1
-ports = 1
 END
     cat > "$folder/radlimitd.toml" << END
 accounts = "accounts.toml"
@@ -126,14 +118,18 @@ proxy() {
     processes+=($!)
 }
 
-# Starts all three on ports that nobody has, the far one with this certificate.
-start() {
+# Writes all files, with ports that nobody has, and for the far one with this certificate.
+prepare() {
     stop_all
     rm -rf "$folder/state"
     read -r auth acct < <(free_ports)
     read -r far_auth far_acct < <(free_ports)
     read -r tls _ < <(free_ports)
     write_files "$1"
+}
+
+# Starts all three.
+start() {
     "$program" run "$folder/radlimitd.toml" 2> "$folder/said" &
     processes+=($!)
     proxy near
@@ -147,20 +143,10 @@ start() {
 # Sends a packet as the access server, to the far radsecproxy, and looks at the answer.
 from_server() {
     local auth=$far_auth acct=$far_acct
-    tries=3 expect "$1" "$2" "$3" "$4" secret-of-access-server-1 'NAS-Identifier = "pop1"' "${@:5}"
+    again=yes expect "$1" "$2" "$3" "$4" secret-of-access-server-1 'NAS-Identifier = "pop1"' "${@:5}"
 }
 login() {
     from_server "$1" "$2" "$3" auth 'User-Name = "nemo"' 'User-Password = "arctangent"' 'Message-Authenticator = 0x00'
-}
-
-# Looks at what something is: shows WHAT EXPECTED FOUND
-shows() {
-    if [ "$2" = "$3" ]; then
-        echo "$1: $3"
-    else
-        echo "$1: wanted $2, and found $3"
-        failed=1
-    fi
 }
 
 # The account's links, without their ages.
@@ -171,11 +157,7 @@ certificate authority near
 certificate authority far
 authority stranger
 certificate stranger other
-start far || start far || start far || {
-    echo "they have not started:" >&2
-    cat "$folder"/said* >&2
-    exit 1
-}
+begin far
 
 login 'a login through both' Access-Accept 'Class = '
 class=$(sed -n 's/^[[:space:]]*\(Class = 0x[0-9a-f]*\)$/\1/p' <<< "$received")
@@ -190,12 +172,8 @@ from_server 'an Accounting-On with a User-Name' Accounting-Response '' acct \
     'Acct-Status-Type = Accounting-On' 'User-Name = "pop1"'
 shows 'it has' '' "$(links)"
 
-start other || start other || {
-    echo "they have not started with another certificate" >&2
-    exit 1
-}
+begin other
 login 'a login by a proxy whose certificate is of another authority' '' ''
 shows 'nothing came of it' '' "$(links)"
 
-if [ "$failed" = 0 ]; then echo "every answer was the right one"; fi
-exit "$failed"
+verdict

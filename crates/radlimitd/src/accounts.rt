@@ -4,6 +4,7 @@ use rld_commands::{Fault, accounts_for};
 use rld_config::ServerFile;
 use rld_serve::{Accounts, AccountsFault};
 use rsl_accounts::Config;
+use rsl_reply::Dictionary;
 use std::alloc::Global;
 
 /// The account file of a server.
@@ -11,6 +12,8 @@ use std::alloc::Global;
 pub(crate) struct ServerAccounts<'a> {
     /// The system. A thread can be given no other handle to files.
     pub(crate) files: &'a HostRuntime,
+    /// The names that attributes have.
+    pub(crate) names: &'a Dictionary,
     /// The name of the server's file.
     pub(crate) name: &'a str,
     /// The contents of the server's file.
@@ -21,7 +24,14 @@ pub(crate) struct ServerAccounts<'a> {
 
 impl Accounts for ServerAccounts<'_> {
     fn read(&self, alloc: Global) -> Result<Config, AccountsFault> {
-        match accounts_for(self.files, alloc, self.name, self.server, self.path) {
+        match accounts_for(
+            self.files,
+            alloc,
+            self.names,
+            self.name,
+            self.server,
+            self.path,
+        ) {
             Ok(accounts) => Ok(accounts.config),
             Err(Fault::NoMemory) => Err(AccountsFault::NoMemory),
             Err(fault) => Err(AccountsFault::Wrong(format!(in alloc; "{fault}")?)),

@@ -3,9 +3,8 @@
 ghost use Rattle.std.specs.Prelude.{◌≡◌, IfNone, IfOk, IfSome, None};
 
 use rld_ask::Asks;
-use rld_commands::{Fault, token_in};
+use rld_commands::{Fault, cause_of, token_in};
 use rld_config::{AskSettings, ServerFile};
-use rld_serve::RunFault;
 use rsl_event::Source;
 use rsl_port::socket_addr;
 use std::alloc::Global;
@@ -38,12 +37,13 @@ where
     let token = token_in(rt, alloc, path)?;
     match Asks::bind(rt, alloc, token, *client, *address, *port) {
         Ok(asks) => Ok(Some(asks)),
-        Err(_) => {
+        Err(error) => {
             let source = Source {
                 address: *address,
                 port: *port,
             };
-            Err(Fault::Run(RunFault::Unbound(socket_addr(source))))
+            let cause = cause_of(error.kind());
+            Err(Fault::Unbound(socket_addr(source), cause))
         }
     }
 }

@@ -1,5 +1,5 @@
 //! The program `radlimitd`, the operator's server. `radlimitd run FILE` is the server; the crate
-//! `rld_commands` has its other commands.
+//! `rld_commands` has its other commands, and `rld_words` reads which of them is asked for.
 //!
 //! This crate has the edges of the process: its arguments, its streams, what `run` starts, and the
 //! exit status, which is that of the fault (`exit_code`).
@@ -7,13 +7,19 @@
 
 mod accounts;
 mod asks;
+mod binding;
+mod core_dump;
+mod greeting;
 mod group;
 mod pace;
 mod proof;
 mod run;
 mod sink;
+mod starting;
 
-use rld_commands::{Command, Fault, Misuse, Topic, exit_code};
+use rld_commands::{Fault, carry_out, exit_code};
+use rld_words::{Command, Misuse, Topic, VERSION_HELP};
+use rsl_dictionary::dictionary;
 use run::run;
 use std::alloc::Global;
 use std::env::{self, Env};
@@ -25,8 +31,8 @@ use std::sync::Wait;
 use std::thread::Threads;
 use std::time::Clock;
 
-/// The version of the program.
-pub(crate) const VERSION: &str = "0.2.0";
+/// The version of the program: the next one with `~dev`, until that is released.
+pub(crate) const VERSION: &str = "0.4.0~dev";
 
 /// The commands of the program.
 const HELP: &str = "\
@@ -64,7 +70,8 @@ What a running server is asked:
     radlimitd help COMMAND     says more of one, with an example and its exit statuses; so does COMMAND --help
     radlimitd version          prints the version
 
-FILE is the server's file: radlimitd.conf(5). It names the account file: radlimit-accounts(5).
+Flags may stand in any order, before or after other words. FILE is the server's file, radlimitd.conf(5), which names
+the account file, radlimit-accounts(5).
 ";
 
 fn main(rt: HostRuntime) -> ExitCode {
@@ -110,12 +117,14 @@ where
         Ok(Command::Do(topic)) => topic,
         Ok(Command::HelpOn(topic)) => return say(stdout, topic.help()),
         Ok(Command::Help) => return say(stdout, HELP),
+        Ok(Command::HelpOnVersion) => return say(stdout, VERSION_HELP),
         Ok(Command::Version) => return say_version(stdout),
         Err(misuse) => return Err(Fault::Usage(misuse)),
     };
+    let names = dictionary(alloc)?;
     match (topic, words.as_slice()) {
-        (Topic::Run, [_, file]) => run(rt, files, alloc, file.as_str()),
-        (topic, words) => topic.carry_out(rt, words, stdin, stdout, stderr),
+        (Topic::Run, [_, file]) => run(rt, files, alloc, &names, file.as_str()),
+        (topic, words) => carry_out(rt, &names, topic, words, stdin, stdout, stderr),
     }
 }
 

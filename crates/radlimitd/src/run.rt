@@ -5,22 +5,26 @@ ghost use Rattle.std.specs.Net.Socket.{v4_ip, v4_port};
 use crate::VERSION;
 use crate::accounts::ServerAccounts;
 use crate::asks::asks_of;
+use crate::binding::sockets_of;
+use crate::core_dump::leave_memory_out;
+use crate::greeting::{FirstLines, greeting_of};
 use crate::group::group_number;
 use crate::pace::pace_of;
 use crate::proof::proof_in;
 use crate::sink::sink_of;
-use rld_commands::{AccountFile, Fault, Wrong, accounts_for, bad_file, server_file};
-use rld_config::{ControlSocket, Key, NewHistory, Part, Paths, ServerFault, ServerFile};
+use crate::starting::{Begun, start_in_room};
+use rld_commands::{AccountFile, Fault, accounts_for, cause_of, server_file, unknown_group};
+use rld_config::{ControlSocket, NewHistory, Paths, ServerFile};
 use rld_folder::Folder;
 use rld_log::{Pacing, Ticks};
 use rld_look::Build;
-use rld_serve::{Access, Control, Plan, RunFault, Sockets, serve};
-use rld_start::{FolderGenerations, Found, StartFault, Started, open_folder, start};
-use rld_warnings::Warning;
+use rld_serve::{Access, Control, Plan, serve};
+use rld_start::{FolderGenerations, StartFault, Started, open_folder};
 use rld_web::Web;
-use rsl_accounts::{Config, UnsignedRule};
+use rsl_accounts::Config;
 use rsl_event::Source;
 use rsl_port::socket_addr;
+use rsl_reply::Dictionary;
 use std::alloc::Global;
 use std::env::Env;
 use std::fs::{File, Files};
@@ -46,7 +50,13 @@ use std::time::Clock;
 ///
 /// A running server reads its files by `files`: a thread can be given no other handle to files than
 /// the system's own.
-pub(crate) fn run<R>(rt: &R, files: &HostRuntime, alloc: Global, name: &str) -> Result<(), Fault>
+pub(crate) fn run<R>(
+    rt: &R,
+    files: &HostRuntime,
+    alloc: Global,
+    names: &Dictionary,
+    name: &str,
+) -> Result<(), Fault>
 where
     R: Env
         + Files<File = File>
@@ -60,6 +70,7 @@ where
         + Wait
         + Sync,
 {
+    leave_memory_out(rt);
     let now = rt.since_1970()?.as_secs();
     let sink = sink_of(rt, alloc)?;
     let build = Build {
@@ -69,25 +80,42 @@ where
     let server = server_file(rt, alloc, name)?;
     let paths = Paths::of(alloc, name, &server)?;
     let path = paths.accounts.as_str();
-    let AccountFile { config, .. } = accounts_for(rt, alloc, name, &server, path)?;
+    let AccountFile { config, .. } = accounts_for(rt, alloc, names, name, &server, path)?;
     let state = paths.state.as_str();
     check_free(rt, alloc, state, server.new_history)?;
-    let sockets = Sockets::bind(rt, alloc, server.listens.as_slice())?;
+    let sockets = sockets_of(rt, alloc, server.listens.as_slice())?;
     let web = web_of(rt, files, alloc, server.web)?;
     let asks = asks_of(rt, alloc, &server, token_path(&paths))?;
     let access = access_of(rt, alloc, name, &server.control)?;
     let control = match Control::bind(rt, alloc, paths.control.as_str(), access) {
         Ok(control) => control,
         Err(error) if error.kind() == ErrorKind::OutOfMemory => return Err(Fault::NoMemory),
-        Err(_) => return Err(Fault::Control(String::from_str(alloc, paths.control.as_str())?)),
+        Err(error) => {
+            let path = String::from_str(alloc, paths.control.as_str())?;
+            return Err(Fault::Control(path, cause_of(error.kind())));
+        }
     };
     let ticks = Ticks::new();
     let pacing = Pacing {
         pace: pace_of(server.sync),
         ticks: &ticks,
     };
-    let started = start(rt, alloc, &config, state, server.new_history, now, pacing)?;
-    let greeting = greeting_of(alloc, &started.found, &config)?;
+    let Begun { started, room } = start_in_room(
+        rt,
+        alloc,
+        &config,
+        state,
+        server.new_history,
+        now,
+        pacing,
+    )?;
+    let lines = FirstLines {
+        name,
+        paths: &paths,
+        server: &server,
+        config: &config,
+    };
+    let greeting = greeting_of(alloc, &build, &lines, room.as_str(), &started.found)?;
     let Started {
         folder,
         store,
@@ -99,12 +127,14 @@ where
     let generations = generations_of(files, folder, &server);
     let accounts = ServerAccounts {
         files,
+        names,
         name,
         server: &server,
         path,
     };
     let plan = Plan {
         build,
+        names,
         networks: server.networks.as_slice(),
         boot,
         start: now,
@@ -136,22 +166,6 @@ fn token_path(paths: &Paths) -> Option<&str> {
         Some(path) => Some(path.as_str()),
         None => None,
     }
-}
-
-/// The message of a start: what was found, and a line for each client that need not sign, under a
-/// guard.
-fn greeting_of(alloc: Global, found: &Found, config: &Config) -> Result<String, Fault> {
-    let mut text = found.greeting(alloc)?;
-    if let UnsignedRule::Guarded = config.unsigned_rule() {
-        for number in 0..config.clients() {
-            let client = config.client_at(number);
-            if !client.signed {
-                let warning = Warning::NotSigned(client.address);
-                text.push_str(format!(in alloc; "\n{warning}")?.as_str())?;
-            }
-        }
-    }
-    Ok(text)
 }
 
 /// The logs of a folder, whose archive is kept as the server's file says.
@@ -196,10 +210,7 @@ fn group_of<F: Files>(
     };
     match group_number(files, alloc, group.as_str())? {
         Some(number) => Ok(Some(number)),
-        None => {
-            let fault = ServerFault::BadValue(Part::Control, Key::Group);
-            bad_file(alloc, name, None, Wrong::Server(fault))
-        }
+        None => unknown_group(files, alloc, name, group.as_str()),
     }
 }
 
@@ -225,9 +236,9 @@ fn web_of<N: Net<Listener = TcpListener, Stream = TcpStream>>(
     let port = web.port;
     match Web::bind(net, alloc, RandomState::new(source)?, address, port) {
         Ok(web) => Ok(Some(web)),
-        Err(_) => {
+        Err(error) => {
             let address = socket_addr(Source { address, port });
-            Err(Fault::Run(RunFault::Unbound(address)))
+            Err(Fault::Unbound(address, cause_of(error.kind())))
         }
     }
 }

@@ -5,6 +5,7 @@ use Rattle.std.specs.Prelude.{Result, set, Bool, true, false, cond, drop, not, s
 use Rattle.std.proofs.lemmas.Grind.{flat_map-append}
 use Rattle.rld_ask.specs.Form.{form_of}
 use Rattle.std.specs.List.{filter}
+use Rattle.rsl_reply.specs.declared.dictionary.Dictionary.{Dictionary}
 use Rattle.rld_ask.specs.Asking.{AreTold, IsToldIf, answers_after, asks_in, forms_of, has_ended, is_waiting}
 use Rattle.rld_ask.specs.declared.ask_connection.AskConnection.{AskConnection}
 use Rattle.rld_ask.specs.declared.ask_connection.Phase.{Phase}
@@ -62,14 +63,14 @@ left_more : (olds : List AskConnection) (answers : List Answer) (old : AskConnec
 left_more [] answers old = refl
 left_more (first ∷ rest) answers old = left_more rest (answers_after first answers) old
 
-told_more : (olds : List AskConnection) (answers : List Answer) (news : List AskConnection) (old new : AskConnection) →
-    AreTold olds answers news → IsToldIf old (slice_get (answers_left olds answers) 0) new →
-    AreTold (olds ++ old ∷ []) answers (news ++ new ∷ [])
-told_more [] answers [] old new told is = (is, tt)
-told_more [] answers (other ∷ others) old new told is = elim told [ ]
-told_more (other ∷ others) answers [] old new told is = elim told [ ]
-told_more (first ∷ rest) answers (second ∷ others) old new told is =
-    (told.0, told_more rest (answers_after first answers) others old new told.1 is)
+told_more : (names : Dictionary) (olds : List AskConnection) (answers : List Answer) (news : List AskConnection) (old new : AskConnection) →
+    AreTold names olds answers news → IsToldIf names old (slice_get (answers_left olds answers) 0) new →
+    AreTold names (olds ++ old ∷ []) answers (news ++ new ∷ [])
+told_more names [] answers [] old new told is = (is, tt)
+told_more names [] answers (other ∷ others) old new told is = elim told [ ]
+told_more names (other ∷ others) answers [] old new told is = elim told [ ]
+told_more names (first ∷ rest) answers (second ∷ others) old new told is =
+    (told.0, told_more names rest (answers_after first answers) others old new told.1 is)
 
 -- the connection at hand is the one that it was
 old_is : (olds news : List AskConnection) (index : ℕ) (old : AskConnection) → index < length olds → index < length news →
@@ -79,18 +80,18 @@ old_is olds news index old within within_news same is =
     (sym (drop_more news index old within_news) ∙ same ∙ drop_more olds index old within))
     ∙ sym is
 
-pub told_step : (olds news : List AskConnection) (answers : List Answer) (index : ℕ) (old new : AskConnection) →
+pub told_step : (names : Dictionary) (olds news : List AskConnection) (answers : List Answer) (index : ℕ) (old new : AskConnection) →
     index < length olds → index < length news →
-    AreTold (take index olds) answers (take index news) → drop index news ≡ drop index olds → old ≡ get_or news index old →
-    IsToldIf old (slice_get (answers_left (take index olds) answers) 0) new →
-    AreTold (take (index + 1) olds) answers (take (index + 1) (set news index new))
-told_step olds news answers index old new within within_news told same is told_now =
+    AreTold names (take index olds) answers (take index news) → drop index news ≡ drop index olds → old ≡ get_or news index old →
+    IsToldIf names old (slice_get (answers_left (take index olds) answers) 0) new →
+    AreTold names (take (index + 1) olds) answers (take (index + 1) (set news index new))
+told_step names olds news answers index old new within within_news told same is told_now =
     let first : take (index + 1) olds ≡ take index olds ++ old ∷ [] =
     take_more olds index old within
     ∙ ap (λ (one : AskConnection). take index olds ++ one ∷ []) (old_is olds news index old within within_news same is) in
-    subst (λ (xs : List AskConnection). AreTold xs answers (take (index + 1) (set news index new))) (sym first)
-    (subst (λ (ys : List AskConnection). AreTold (take index olds ++ old ∷ []) answers ys) (sym (take_more_set news index new within_news))
-    (told_more (take index olds) answers (take index news) old new told told_now))
+    subst (λ (xs : List AskConnection). AreTold names xs answers (take (index + 1) (set news index new))) (sym first)
+    (subst (λ (ys : List AskConnection). AreTold names (take index olds ++ old ∷ []) answers ys) (sym (take_more_set news index new within_news))
+    (told_more names (take index olds) answers (take index news) old new told told_now))
 
 pub left_step : (olds news : List AskConnection) (answers : List Answer) (index : ℕ) (old : AskConnection) →
     index < length olds → index < length news → drop index news ≡ drop index olds → old ≡ get_or news index old →
@@ -109,8 +110,8 @@ rest_step olds news index new within within_news same =
     ∙ ap (λ (list : List AskConnection). drop 1 list)
     (sym (drop_more news index new within_news) ∙ same ∙ drop_more olds index new within)
 
-pub told_all : (olds news : List AskConnection) (answers : List Answer) (index : ℕ) → length olds ≤ index → length news ≤ index →
-    AreTold (take index olds) answers (take index news) → AreTold olds answers news
-told_all olds news answers index all all_news told =
-    subst (λ (xs : List AskConnection). AreTold xs answers news) (take_all index olds all)
-    (subst (λ (ys : List AskConnection). AreTold (take index olds) answers ys) (take_all index news all_news) told)
+pub told_all : (names : Dictionary) (olds news : List AskConnection) (answers : List Answer) (index : ℕ) → length olds ≤ index → length news ≤ index →
+    AreTold names (take index olds) answers (take index news) → AreTold names olds answers news
+told_all names olds news answers index all all_news told =
+    subst (λ (xs : List AskConnection). AreTold names xs answers news) (take_all index olds all)
+    (subst (λ (ys : List AskConnection). AreTold names (take index olds) answers ys) (take_all index news all_news) told)

@@ -1,5 +1,5 @@
 -- Which requests are refused by their head.
-use Rattle.std.specs.Prelude.{◌≡◌, ℕ, Bool, false, not, if◌then◌else◌, List, [], ◌∷◌, codes, drop, filter, map, bytes_eq, Option, Some, None}
+use Rattle.std.specs.Prelude.{◌≡◌, ℕ, Bool, false, true, not, if◌then◌else◌, List, [], ◌∷◌, codes, drop, filter, map, bytes_eq, Option, Some, None}
 use Rattle.std.specs.Str.{str_eq_ignore_ascii_case}
 use Rattle.httparse.specs.Grammar.{RequestHead}
 use Rattle.httparse.specs.Spans.{name_and_value}
@@ -41,3 +41,18 @@ pub record IsJudged (credentials : List ℕ) (limits : Limits) (input : List ℕ
   pub len : ℕ
   pub accepts : AcceptsRequest limits input head framing (drop len input)
   pub is : refusal ≡ refusal_by credentials head
+
+-- a request whose refusal this is has shown the token
+abbrev pub is_shown_by : (refusal : Option Refusal) → Bool
+is_shown_by (Some Token) = false
+is_shown_by (Some Path) = true
+is_shown_by (Some Method) = true
+is_shown_by None = true
+
+-- the input begins with a head that is accepted, and that shows the token
+pub record HasShown (credentials : List ℕ) (limits : Limits) (input : List ℕ) : Type 0 where
+  pub head : RequestHead
+  pub framing : Framing
+  pub len : ℕ
+  pub accepts : AcceptsRequest limits input head framing (drop len input)
+  pub shows : shows_token credentials (map name_and_value head.fields) ≡ true

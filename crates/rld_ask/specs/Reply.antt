@@ -1,8 +1,11 @@
 -- What an accept says, as JSON (RFC 8259) that FreeRADIUS's `rest` module reads, and as lines.
-use Rattle.std.specs.Prelude.{ℕ, ◌-◌, ◌==◌, ◌&&◌, ◌||◌, not, Bool, false, if◌then◌else◌, List, [], ◌∷◌, ◌++◌, length, fold, codes, bytes_eq, slice_get, Option, None, Some}
+use Rattle.std.specs.Prelude.{ℕ, ◌-◌, ◌==◌, ◌&&◌, ◌||◌, not, nat_le, Bool, false, if◌then◌else◌, List, [], ◌∷◌, ◌++◌, length, fold, codes, bytes_eq, slice_get, slice_index, Option, None, Some}
 use Rattle.std.specs.List.{flat_map, list_any}
+use Rattle.rsl_reply.specs.Value.{inside}
+use Rattle.rld_attributes.specs.Value.{escaped}
 use Rattle.rsl_wire.specs.Attributes.{Attribute}
 use Rattle.rsl_event.specs.declared.codes.TheConstants.{ACCT_INTERIM_INTERVAL, FRAMED_PROTOCOL, IDLE_TIMEOUT, MESSAGE_AUTHENTICATOR, PORT_LIMIT, PROXY_STATE, SERVICE_TYPE, SESSION_TIMEOUT}
+use Rattle.rsl_reply.specs.declared.dictionary.Dictionary.{Dictionary}
 use Rattle.rld_attributes.specs.Written.{pair, written}
 use Rattle.rld_attributes.specs.declared.written.Written.{Written}
 use Rattle.rld_ask.specs.declared.reply.TheConstants.{FRAMED_IP_ADDRESS, FRAMED_IP_NETMASK}
@@ -15,14 +18,14 @@ is_told kind = not (kind == MESSAGE_AUTHENTICATOR) && not (kind == PROXY_STATE)
 abbrev pub Told : Type 0
 Told = ℕ × Written
 
-abbrev pub told_if : Attribute → List Told
-told_if attribute =
+abbrev pub told_if : Dictionary → Attribute → List Told
+told_if names attribute =
     if is_told attribute.kind
-    then (attribute.kind, written attribute.kind attribute.value) ∷ []
+    then (attribute.kind, written names attribute.kind attribute.value) ∷ []
     else []
 
-abbrev pub told_of : List Attribute → List Told
-told_of attributes = flat_map told_if attributes
+abbrev pub told_of : Dictionary → List Attribute → List Told
+told_of names attributes = flat_map (told_if names) attributes
 
 -- ---- as JSON
 
@@ -34,16 +37,22 @@ is_single kind =
     || kind == FRAMED_IP_NETMASK || kind == SESSION_TIMEOUT || kind == IDLE_TIMEOUT
     || kind == PORT_LIMIT || kind == ACCT_INTERIM_INTERVAL
 
--- a string: a text has its quotation marks
+-- what stands between quotation marks, or the whole
 abbrev pub is_quoted : (value : List ℕ) → Bool
-is_quoted [] = false
-is_quoted (first ∷ rest) = first == 34
+is_quoted value =
+    nat_le 2 (length value) && slice_index value 0 == 34
+    && slice_index value (length value - 1) == 34
+
+abbrev pub bare : (value : List ℕ) → List ℕ
+bare value = if is_quoted value then inside value else value
 
 unfoldable pub in_quotes : (value : List ℕ) → List ℕ
 in_quotes value = codes "\"" ++ (value ++ codes "\"")
 
+-- a string: FreeRADIUS reads it as a text between quotation marks, with backslashes that escape, so those of
+-- a text are escaped once more
 abbrev pub string : (value : List ℕ) → List ℕ
-string value = if is_quoted value then value else in_quotes value
+string value = in_quotes (flat_map escaped (bare value))
 
 -- a comma, but not after a bracket that opens
 abbrev pub opens : Option ℕ → Bool
@@ -83,17 +92,18 @@ with_members told text (one ∷ rest) =
     with_members told
     (if list_any (is_named one.1.name) rest then text else with_member told text one) rest
 
-abbrev pub json_of : List Attribute → List ℕ
-json_of attributes =
-    with_members (told_of attributes) (codes "{") (told_of attributes) ++ codes "}\n"
+abbrev pub json_of : Dictionary → List Attribute → List ℕ
+json_of names attributes =
+    with_members (told_of names attributes) (codes "{") (told_of names attributes) ++ codes "}\n"
 
 -- ---- as lines
 
-unfoldable pub line : (kind : ℕ) (value : List ℕ) → List ℕ
-line kind value = pair (written kind value) ++ codes "\n"
+unfoldable pub line : Dictionary → (kind : ℕ) (value : List ℕ) → List ℕ
+line names kind value = pair (written names kind value) ++ codes "\n"
 
-abbrev pub line_of : Attribute → List ℕ
-line_of attribute = if is_told attribute.kind then line attribute.kind attribute.value else []
+abbrev pub line_of : Dictionary → Attribute → List ℕ
+line_of names attribute =
+    if is_told attribute.kind then line names attribute.kind attribute.value else []
 
-abbrev pub lines_of : List Attribute → List ℕ
-lines_of attributes = flat_map line_of attributes
+abbrev pub lines_of : Dictionary → List Attribute → List ℕ
+lines_of names attributes = flat_map (line_of names) attributes

@@ -1,6 +1,7 @@
 -- What a connection gives of a request, and what is sent in answer to it.
 use Rattle.std.specs.Prelude.{◌≡◌, ◌⊎◌, ⊤, drop, ℕ, List, [], ◌++◌, codes, Option, Some, None, Result, Ok, Err}
 use Rattle.http1.specs.declared.server.Server.{Server}
+use Rattle.rsl_reply.specs.declared.dictionary.Dictionary.{Dictionary}
 use Rattle.rld_attributes.specs.Listed.{attributes_of}
 use Rattle.rld_ask.specs.Refusal as refusals
 use Rattle.rld_ask.specs.Response.{response_octets}
@@ -46,17 +47,17 @@ HasResponded _ = ⊥
 -- ---- the answer to an ask
 
 -- what is told of it: the reply where it is accepted, and else what became of it
-abbrev pub text_of : Outcome → (reply : List ℕ) → List ℕ
-text_of Accepted reply = json_of (attributes_of reply)
-text_of outcome reply = outcomes.text_of outcome ++ codes "\n"
+abbrev pub text_of : Dictionary → Outcome → (reply : List ℕ) → List ℕ
+text_of names Accepted reply = json_of names (attributes_of reply)
+text_of names outcome reply = outcomes.text_of outcome ++ codes "\n"
 
 abbrev pub status_told : Option Answer → ℕ
 status_told None = outcomes.status_of Unanswered
 status_told (Some answer) = outcomes.status_of answer.outcome
 
-abbrev pub text_told : Option Answer → List ℕ
-text_told None = text_of Unanswered []
-text_told (Some answer) = text_of answer.outcome answer.reply
+abbrev pub text_told : Dictionary → Option Answer → List ℕ
+text_told names None = text_of names Unanswered []
+text_told names (Some answer) = text_of names answer.outcome answer.reply
 
 -- what is left of octets to be sent, once some have gone
 pub record IsRestOf (whole rest : List ℕ) : Type 0 where
@@ -64,10 +65,10 @@ pub record IsRestOf (whole rest : List ℕ) : Type 0 where
   pub is : rest ≡ drop sent whole
 
 -- a connection is answered so, of which some may have gone; or it ends
-abbrev pub IsTold : AskConnection → Option Answer → AskConnection → Type 0
-IsTold old answer new =
+abbrev pub IsTold : Dictionary → AskConnection → Option Answer → AskConnection → Type 0
+IsTold names old answer new =
     (new.phase ≡ Ends)
-    ⊎ IsRestOf (old.output.items ++ response_octets old.server (status_told answer) (text_told answer)) new.output.items
+    ⊎ IsRestOf (old.output.items ++ response_octets old.server (status_told answer) (text_told names answer)) new.output.items
 
 -- a turn that ends with an ask
 abbrev pub IsAsk : Turn → Type 0

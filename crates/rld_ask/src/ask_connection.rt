@@ -1,12 +1,12 @@
 //! A connection over which asks come, one after the other.
 
-ghost use Rattle.std.specs.Prelude.{◌≡◌, ◌⊎◌, ◌++◌, IfOk, None, OnErr, OnOk, option_copied};
+ghost use Rattle.std.specs.Prelude.{◌≡◌, ◌⊎◌, ◌++◌, ◌||◌, false, true, IfOk, None, OnErr, OnOk, option_copied};
 ghost use Rattle.http1.specs.declared.conn.Reading.TheVariants.{Body, Head};
 ghost use Rattle.http1.specs.declared.decode.Decoder.{Decoder};
 ghost use Rattle.rld_ask.specs.Asking.{has_ended, is_waiting};
 ghost use Rattle.rld_ask.specs.Form.{form_of};
 ghost use Rattle.rld_ask.specs.Outcome.{status_of};
-ghost use Rattle.rld_ask.specs.Heads.{IsJudged};
+ghost use Rattle.rld_ask.specs.Heads.{HasShown, IsJudged, is_shown_by};
 ghost use Rattle.rld_ask.specs.Response.{after_head, body_octets, head_octets, response_octets};
 ghost use Rattle.rld_ask.specs.Sending.{GivesAsk, HasResponded, IsAsk, IsAsking, IsRestOf, IsTold, ends_so, sent_for, status_told, text_of, text_told};
 ghost use Rattle.rld_ask.specs.declared.ask_connection.Phase.TheVariants.{Ends, Waits};
@@ -26,9 +26,10 @@ use bytes::{Buf, BufMut, BytesMut};
 use http1::{BodySize, Event, Limits, Server, WriteError};
 use httparse::spans::EMPTY_HEADER_SPAN;
 use rld_values::push_text;
+use rsl_reply::Dictionary;
 use std::alloc::{AllocError, Global};
 use std::io::{self, ErrorKind, Read, Write};
-use std::net::{Shutdown, TcpStream};
+use std::net::{Shutdown, SocketAddr, TcpStream};
 
 /// How long a request may take from its first octet until its answer has gone, in milliseconds.
 const PATIENCE_MILLIS: u64 = 5_000;
@@ -92,13 +93,24 @@ pub(crate) struct AskConnection {
     form: Vec<u8>,
     refusal: Option<Refusal>,
     refused: Refused,
+    peer: SocketAddr,
+    has_shown_token: bool,
     phase: Phase,
     until: u64,
 }
 
 impl AskConnection {
-    /// A connection that was made at this moment in milliseconds. No call on the stream waits from now on.
-    pub(crate) fn new(alloc: Global, stream: TcpStream, now: u64) -> io::Result<AskConnection> {
+    /// A connection that this peer has made at this moment in milliseconds. No call on the stream waits from now
+    /// on.
+    pub(crate) fn new(
+        alloc: Global,
+        stream: TcpStream,
+        peer: SocketAddr,
+        now: u64,
+    ) -> io::Result<AskConnection>
+        ensures peer { IfOk result (λ connection. connection.peer ≡ peer) }
+        ensures shown { IfOk result (λ connection. connection.has_shown_token ≡ false) }
+    {
         stream.set_nonblocking(true)?;
         stream.set_nodelay(true)?;
         let limits = Limits {
@@ -114,6 +126,8 @@ impl AskConnection {
             form: Vec::new(alloc),
             refusal: None,
             refused: Refused::none(),
+            peer,
+            has_shown_token: false,
             phase: Phase::Reads,
             until: now.saturating_add(PATIENCE_MILLIS),
         })
@@ -122,6 +136,20 @@ impl AskConnection {
     /// The stream, to be waited for.
     pub(crate) fn stream(&self) -> &TcpStream {
         &self.stream
+    }
+
+    /// Who has made it.
+    pub(crate) fn peer(&self) -> SocketAddr
+        ensures { result ≡ self.now.peer }
+    {
+        self.peer
+    }
+
+    /// Whether one of its requests has shown the token.
+    pub(crate) fn has_shown_token(&self) -> bool
+        ensures { result ≡ self.now.has_shown_token }
+    {
+        self.has_shown_token
     }
 
     /// How long it lasts still at this moment, in milliseconds.
@@ -191,6 +219,7 @@ impl AskConnection {
     /// Reads what comes after the last request, and lets it go: where a socket is closed before that, the
     /// answer may be lost.
     fn discard(&mut self) -> io::Result<Turn>
+        ensures shown { self.new.has_shown_token ≡ self.old.has_shown_token }
         ensures kept { (self.old.phase ≡ Waits → ⊥) → self.new.phase ≡ Waits → GivesAsk result }
         ensures asks { IfOk result (λ turn. (ask : OneAsk) → turn ≡ asks ask → ⊥) }
     {
@@ -203,7 +232,7 @@ impl AskConnection {
     }
 
     /// Takes one event from what was read, or reads more.
-    #[tactic(auto, using(crate::proofs::Judging::judged, crate::proofs::Judging::no_data, crate::proofs::Judging::no_end))]
+    #[tactic(auto, using(crate::proofs::Judging::judged, crate::proofs::Judging::shown, crate::proofs::Judging::no_data, crate::proofs::Judging::no_end))]
     fn read_event(&mut self, token: &Token, now: u64) -> io::Result<Turn>
         ensures kept { (self.old.phase ≡ Waits → ⊥) → self.new.phase ≡ Waits → GivesAsk result }
         ensures asks { IfOk result (λ turn. (ask : OneAsk) → turn ≡ asks ask → IsAsking self.new ask) }
@@ -214,6 +243,11 @@ impl AskConnection {
             (self.new.refusal ≡ self.old.refusal) ⊎ HasResponded self.new.phase }
         ensures taken { IfOk result (λ turn. (ask : OneAsk) → turn ≡ asks ask →
             (self.old.server.reading ≡ Head → ⊥) × (self.old.refusal ≡ None)) }
+        ensures shown { self.old.server.reading ≡ Head → self.old.has_shown_token ≡ false →
+            self.new.has_shown_token ≡ true →
+            HasShown token.now.credentials.items self.old.server.limits self.old.input.items }
+        ensures unshown { (body : Decoder) → self.old.server.reading ≡ Body body →
+            self.new.has_shown_token ≡ self.old.has_shown_token }
     {
         let mut spans = [EMPTY_HEADER_SPAN; MAX_FIELDS];
         let read = match self.server.read(self.input.as_slice(), &mut spans) {
@@ -224,6 +258,7 @@ impl AskConnection {
             Event::NeedMore => self.read_more(now),
             Event::Head(head) => {
                 self.refusal = Refusal::of(token, self.input.as_slice(), &head, &spans);
+                self.note_token();
                 if let Some(status) = self.closing_status() {
                     return self.close_with(status);
                 }
@@ -250,6 +285,17 @@ impl AskConnection {
         }
     }
 
+    /// Notes that the token was shown, unless the request that is read is refused for want of it.
+    fn note_token(&mut self)
+        ensures { self.new ≡ record self.old {
+          has_shown_token = self.old.has_shown_token || is_shown_by self.old.refusal;
+        } }
+    {
+        if !matches!(self.refusal, Some(Refusal::Token)) {
+            self.has_shown_token = true;
+        }
+    }
+
     /// The status with which a connection closes whose request has a form that is not read: a coded or a long one.
     fn closing_status(&self) -> Option<u16> {
         if self.server.has_codings() {
@@ -271,6 +317,7 @@ impl AskConnection {
 
     /// Reads octets, if some are there.
     fn read_more(&mut self, now: u64) -> io::Result<Turn>
+        ensures shown { self.new.has_shown_token ≡ self.old.has_shown_token }
         ensures server { self.new.server ≡ self.old.server }
         ensures refusal { self.new.refusal ≡ self.old.refusal }
         ensures kept { (self.old.phase ≡ Waits → ⊥) → self.new.phase ≡ Waits → GivesAsk result }
@@ -290,6 +337,7 @@ impl AskConnection {
 
     /// Tells the other side to go on with the form.
     fn tell_to_continue(&mut self) -> io::Result<()>
+        ensures shown { self.new.has_shown_token ≡ self.old.has_shown_token }
         ensures reading { self.new.server.reading ≡ self.old.server.reading }
         ensures refusal { self.new.refusal ≡ self.old.refusal }
         ensures phase { self.new.phase ≡ self.old.phase }
@@ -305,6 +353,7 @@ impl AskConnection {
 
     /// Takes the ask of a request that was read, or refuses it.
     fn end_request(&mut self, now: u64) -> io::Result<Turn>
+        ensures shown { self.new.has_shown_token ≡ self.old.has_shown_token }
         ensures stays { (self.new.refusal ≡ self.old.refusal) ⊎ HasResponded self.new.phase }
         ensures kept { (self.old.phase ≡ Waits → ⊥) → self.new.phase ≡ Waits → GivesAsk result }
         ensures turn { IfOk result (λ turn. turn ≡ ends_so self.old.refusal (form_of self.old.form.items)) }
@@ -335,22 +384,28 @@ impl AskConnection {
     }
 
     /// Answers the ask that waits. Where there is no answer nothing is known of it.
-    fn answer(&mut self, answer: Option<&Answer>, now: u64) -> io::Result<()>
+    fn answer(&mut self, names: &Dictionary, answer: Option<&Answer>, now: u64) -> io::Result<()>
         ensures { OnOk result (self.new.output.items ≡ self.old.output.items ++ response_octets self.old.server
-            (status_told (option_copied answer.entry)) (text_told (option_copied answer.entry))) }
+            (status_told (option_copied answer.entry)) (text_told names.now (option_copied answer.entry))) }
     {
         match answer {
-            Some(Answer { outcome, reply }) => self.tell(*outcome, reply.as_slice(), now),
-            None => self.tell(Outcome::Unanswered, &[], now),
+            Some(Answer { outcome, reply }) => self.tell(names, *outcome, reply.as_slice(), now),
+            None => self.tell(names, Outcome::Unanswered, &[], now),
         }
     }
 
     /// Tells what became of an ask to whose request this is the reply.
-    fn tell(&mut self, outcome: Outcome, reply: &[u8], now: u64) -> io::Result<()>
+    fn tell(
+        &mut self,
+        names: &Dictionary,
+        outcome: Outcome,
+        reply: &[u8],
+        now: u64,
+    ) -> io::Result<()>
         ensures { OnOk result (self.new.output.items ≡ self.old.output.items
-            ++ response_octets self.old.server (status_of outcome) (text_of outcome reply.now)) }
+            ++ response_octets self.old.server (status_of outcome) (text_of names.now outcome reply.now)) }
     {
-        let text = text_of(self.alloc, outcome, reply)?;
+        let text = text_of(self.alloc, names, outcome, reply)?;
         self.respond(outcome.status(), text.as_slice(), now)
     }
 
@@ -370,10 +425,10 @@ impl AskConnection {
 
     /// Answers the ask that waits, and sends what goes without waiting. Where the answer cannot be written, the
     /// connection is done with.
-    pub(crate) fn answer_or_end(&mut self, answer: Option<&Answer>, now: u64)
-        ensures { IsTold self.old (option_copied answer.entry) self.new }
+    pub(crate) fn answer_or_end(&mut self, names: &Dictionary, answer: Option<&Answer>, now: u64)
+        ensures { IsTold names.now self.old (option_copied answer.entry) self.new }
     {
-        match self.answer(answer, now) {
+        match self.answer(names, answer, now) {
             Ok(()) => self.send(),
             Err(_) => self.end(),
         }
@@ -391,6 +446,7 @@ impl AskConnection {
 
     /// Writes a response, and makes ready for the next request.
     fn respond(&mut self, status: u16, text: &[u8], now: u64) -> io::Result<()>
+        ensures shown { self.new.has_shown_token ≡ self.old.has_shown_token }
         ensures refusal { OnErr result (self.new.refusal ≡ self.old.refusal) }
         ensures done { OnOk result (HasResponded self.new.phase) }
         ensures phase { self.new.phase ≡ Waits → self.old.phase ≡ Waits }
@@ -415,6 +471,7 @@ impl AskConnection {
 
     /// Writes a response with this status and text.
     fn write_response(&mut self, status: u16, text: &[u8]) -> Result<(), WriteError>
+        ensures shown { self.new.has_shown_token ≡ self.old.has_shown_token }
         ensures refusal { self.new.refusal ≡ self.old.refusal }
         ensures phase { self.new.phase ≡ self.old.phase }
         ensures sent { OnOk result (self.new.output.items
@@ -426,6 +483,7 @@ impl AskConnection {
 
     /// Writes the head of a response with this status and text.
     fn write_head(&mut self, status: u16, text: &[u8]) -> Result<(), WriteError>
+        ensures shown { self.new.has_shown_token ≡ self.old.has_shown_token }
         ensures refusal { self.new.refusal ≡ self.old.refusal }
         ensures phase { self.new.phase ≡ self.old.phase }
         ensures sent { OnOk result (self.new.output.items
@@ -440,6 +498,7 @@ impl AskConnection {
 
     /// Writes the text of a response, and ends it.
     fn write_body(&mut self, text: &[u8]) -> Result<(), WriteError>
+        ensures shown { self.new.has_shown_token ≡ self.old.has_shown_token }
         ensures refusal { self.new.refusal ≡ self.old.refusal }
         ensures phase { self.new.phase ≡ self.old.phase }
         ensures sent { OnOk result (self.new.output.items
@@ -451,6 +510,7 @@ impl AskConnection {
 
     /// Answers what cannot be read, and ends the connection.
     fn close_with(&mut self, status: u16) -> io::Result<Turn>
+        ensures shown { self.new.has_shown_token ≡ self.old.has_shown_token }
         ensures server { self.new.server ≡ self.old.server }
         ensures refusal { self.new.refusal ≡ self.old.refusal }
         ensures kept { (self.old.phase ≡ Waits → ⊥) → self.new.phase ≡ Waits → GivesAsk result }
@@ -464,11 +524,16 @@ impl AskConnection {
 }
 
 /// What is told of an ask: the reply where it is accepted, and else what became of it.
-fn text_of(alloc: Global, outcome: Outcome, reply: &[u8]) -> Result<Vec<u8>, AllocError>
-    ensures { IfOk result (λ text. text.items ≡ text_of outcome reply.now) }
+fn text_of(
+    alloc: Global,
+    names: &Dictionary,
+    outcome: Outcome,
+    reply: &[u8],
+) -> Result<Vec<u8>, AllocError>
+    ensures { IfOk result (λ text. text.items ≡ text_of names.now outcome reply.now) }
 {
     match outcome {
-        Outcome::Accepted => reply_json(alloc, reply),
+        Outcome::Accepted => reply_json(alloc, names, reply),
         outcome => {
             let mut text = Vec::new(alloc);
             push_text(&mut text, outcome.text())?;

@@ -1,23 +1,35 @@
 //! All connections over which asks come, served from one thread.
 
-ghost use Rattle.std.specs.Prelude.{◌≡◌, ◌++◌, Ok, map, slice_get};
-ghost use Rattle.rld_ask.specs.Asking.{AreTold, IsToldIf, answers_after, asks_in, forms_of};
+ghost use Rattle.std.specs.Prelude.{◌≡◌, ◌<◌, ◌++◌, [], IfSome, Ok, length, map, position, slice_get};
+ghost use Rattle.rld_ask.specs.Asking.{
+  AreTold,
+  IsTakenIn,
+  IsToldIf,
+  answers_after,
+  asks_in,
+  forms_of,
+  has_not_shown,
+  outgoing,
+  with_room,
+};
 
 use crate::ask_connection::{AskConnection, Turn};
 use crate::asked::{Answer, Asked};
 use crate::form::AskForm;
-use crate::refused::Refused;
 use crate::token::Token;
 use mio::unix::SourceFd;
 use mio::{Events, Interest, Poll, Token as Name};
+use rsl_reply::Dictionary;
 use std::alloc::Global;
 use std::io;
-use std::net::{Net, TcpListener, TcpStream};
+use std::net::{Net, SocketAddr, TcpListener, TcpStream};
 use std::os::fd::AsRawFd;
 use std::time::Duration;
 
 /// How many connections are served at once: as many asks as a server takes at once.
 const MOST_OPEN: usize = 64;
+
+const _: () = prove!(MOST_OPEN == 64);
 
 /// How long a wait takes at most, in milliseconds.
 const WAIT_MILLIS: u64 = 1_000;
@@ -63,23 +75,24 @@ impl AskConnections {
             .poll(&mut self.events, Some(Duration::from_millis(wait)))
     }
 
-    /// Takes in the connections that wait at the listener. Where there is no room for one more, the oldest is
-    /// closed.
+    /// Takes in the connections that wait at the listener. Where there is no room for one more, the oldest of
+    /// those that have not shown the token is closed; where all have, the oldest.
     pub(crate) fn let_in(&mut self, listener: &TcpListener, now: u64) {
         self.has_more = false;
         for _ in 0..MOST_OPEN {
-            let Ok((stream, _)) = listener.accept() else {
+            let Ok((stream, peer)) = listener.accept() else {
                 return;
             };
-            self.take_in(stream, now);
+            self.take_in(stream, peer, now);
         }
         self.has_more = true;
     }
 
-    /// Takes in a connection, in place of the oldest one where all room is taken. Where the system refuses it,
-    /// it is closed.
-    fn take_in(&mut self, stream: TcpStream, now: u64) {
-        let Ok(connection) = AskConnection::new(self.alloc, stream, now) else {
+    /// Takes in a connection of this peer, once there is room. Where the system refuses it, it is closed.
+    fn take_in(&mut self, stream: TcpStream, peer: SocketAddr, now: u64)
+        ensures { IsTakenIn self.old.connections.items self.new.connections.items }
+    {
+        let Ok(connection) = AskConnection::new(self.alloc, stream, peer, now) else {
             return;
         };
         let fd = connection.stream().as_raw_fd();
@@ -91,43 +104,52 @@ impl AskConnections {
         if registered.is_err() {
             return;
         }
-        if self.connections.len() >= MOST_OPEN {
-            drop(self.connections.remove(0));
-        }
+        self.make_room();
         // there is room, so none is refused
         let _none = self.connections.push(connection);
     }
 
+    /// Closes a connection where all room is taken.
+    fn make_room(&mut self)
+        ensures { self.new.connections.items ≡ with_room self.old.connections.items }
+    {
+        if self.connections.len() >= MOST_OPEN {
+            let index = outgoing(self.connections.as_slice());
+            drop(self.connections.remove(index));
+        }
+    }
+
     /// Gives each connection a turn, puts their asks to the server together, and answers them. Gives whether
     /// the server goes on.
-    pub(crate) fn serve<S: Asked>(&mut self, token: &Token, server: &mut S, now: u64) -> bool {
+    pub(crate) fn serve<S: Asked>(
+        &mut self,
+        names: &Dictionary,
+        token: &Token,
+        server: &mut S,
+        now: u64,
+    ) -> bool {
         let mut asks = Vec::new(self.alloc);
-        let refused = self.gather(token, &mut asks, now);
-        if !refused.is_none() {
-            server.note(refused);
-        }
+        self.gather(token, server, &mut asks, now);
         if asks.is_empty() {
             return true;
         }
         let Some(answers) = server.ask(asks.as_slice()) else {
             return false;
         };
-        answer_each(&mut self.connections, answers.as_slice(), now);
+        answer_each(&mut self.connections, names, answers.as_slice(), now);
         self.has_more = true;
         true
     }
 
-    /// Gives each connection a turn, and closes those that are done with or have had their time. Each has one
-    /// ask at most. Gives how many requests were refused.
-    fn gather(&mut self, token: &Token, asks: &mut Vec<AskForm>, now: u64) -> Refused
+    /// Gives each connection a turn, has the server note which requests were refused, and closes the connections
+    /// that are done with or have had their time. Each has one ask at most.
+    fn gather<S: Asked>(&mut self, token: &Token, server: &mut S, asks: &mut Vec<AskForm>, now: u64)
         ensures { map Ok asks.new.items ≡ map Ok asks.old.items ++ asks_in self.new.connections.items }
     {
-        let mut refused = Refused::none();
-        if take_turns(&mut self.connections, token, asks, &mut refused, now) {
+        if take_turns(&mut self.connections, token, server, asks, now) {
             self.has_more = true;
         }
         self.close_ended();
-        refused
     }
 
     /// Closes the connections that are done with.
@@ -139,13 +161,32 @@ impl AskConnections {
     }
 }
 
-/// Gives each connection a turn, and gives whether one can go on at once.
+/// The index of the connection that is closed where there is no room for another.
+fn outgoing(connections: &[AskConnection]) -> usize
+    ensures index { result ≡ outgoing connections.now }
+    ensures within { 0 < length connections.now → result < length connections.now }
+{
+    position_of_stranger(connections).unwrap_or(0)
+}
+
+/// The index of the oldest connection that has not shown the token.
+fn position_of_stranger(connections: &[AskConnection]) -> Option<usize>
+    ensures index { result ≡ position has_not_shown connections.now }
+    ensures within { IfSome result (λ index. index < length connections.now) }
+{
+    connections
+        .iter()
+        .position(|connection| !connection.has_shown_token())
+}
+
+/// Gives each connection a turn, has the server note which of its requests were refused, and gives whether one
+/// can go on at once.
 #[tactic(auto, using(crate::proofs::Gathering::asks_more, crate::proofs::Gathering::asks_all))]
-fn take_turns(
+fn take_turns<S: Asked>(
     connections: &mut [AskConnection],
     token: &Token,
+    server: &mut S,
     asks: &mut Vec<AskForm>,
-    refused: &mut Refused,
     now: u64,
 ) -> bool
     ensures { map Ok asks.new.items ≡ map Ok asks.old.items ++ asks_in connections.new }
@@ -156,9 +197,19 @@ fn take_turns(
         if take_turn_of(connection, token, asks, now) {
             has_more = true;
         }
-        refused.add(connection.take_refused());
+        note_refused(connection, server);
     }
     has_more
+}
+
+/// Has the server note how many requests of a connection were refused, if some were.
+fn note_refused<S: Asked>(connection: &mut AskConnection, server: &mut S)
+    ensures { connection.new ≡ record connection.old { refused = connection.new.refused } }
+{
+    let refused = connection.take_refused();
+    if !refused.is_none() {
+        server.note(connection.peer(), refused);
+    }
 }
 
 /// Gives a connection a turn, takes its ask, if it has one, and gives whether it can go on at once. One that has
@@ -193,22 +244,23 @@ fn take_turn_of(
 
 /// Answers the connections that wait: the first with the first answer, and so on.
 #[tactic(auto, using(crate::proofs::Gathering::told_step, crate::proofs::Gathering::left_step, crate::proofs::Gathering::rest_step, crate::proofs::Gathering::told_all))]
-fn answer_each(connections: &mut [AskConnection], answers: &[Answer], now: u64)
-    ensures { AreTold connections.old answers.now connections.new }
+fn answer_each(connections: &mut [AskConnection], names: &Dictionary, answers: &[Answer], now: u64)
+    ensures { AreTold names.now connections.old answers.now connections.new }
 {
     let mut left = answers;
     for index in 0..connections.len() {
-        left = answer_if_waiting(&mut connections[index], left, now);
+        left = answer_if_waiting(&mut connections[index], names, left, now);
     }
 }
 
 /// Answers a connection with the next answer, if it waits. Gives the answers that are left.
 fn answer_if_waiting<'a>(
     connection: &mut AskConnection,
+    names: &Dictionary,
     answers: &'a [Answer],
     now: u64,
 ) -> &'a [Answer]
-    ensures told { IsToldIf connection.old (slice_get answers.now 0) connection.new }
+    ensures told { IsToldIf names.now connection.old (slice_get answers.now 0) connection.new }
     ensures rest { result.now ≡ answers_after connection.old answers.now }
 {
     if !connection.is_waiting() {
@@ -216,11 +268,11 @@ fn answer_if_waiting<'a>(
     }
     match answers.split_first() {
         Some((answer, others)) => {
-            connection.answer_or_end(Some(answer), now);
+            connection.answer_or_end(names, Some(answer), now);
             others
         }
         None => {
-            connection.answer_or_end(None, now);
+            connection.answer_or_end(names, None, now);
             answers
         }
     }

@@ -4,6 +4,7 @@ use crate::form::AskForm;
 use crate::outcome::Outcome;
 use crate::refused::Refused;
 use rsl_wire::Octets;
+use std::net::SocketAddr;
 
 /// What is answered to an ask.
 #[derive(Drop)]
@@ -20,8 +21,8 @@ pub trait Asked {
     /// Those at the end have none where memory is refused. `None` where the server can answer no more.
     fn ask(&mut self, asks: &[AskForm]) -> Option<Vec<Answer>>;
 
-    /// Notes that these requests were refused, which are no asks.
-    fn note(&mut self, refused: Refused);
+    /// Notes that these requests of this peer were refused, which are no asks.
+    fn note(&mut self, peer: SocketAddr, refused: Refused);
 
     /// Whether the server shall end.
     fn is_over(&self) -> bool;

@@ -3,6 +3,7 @@ ghost use Rattle.std.specs.Prelude.{◌≡◌, IfOk};
 use crate::ask_connections::AskConnections;
 use crate::asked::Asked;
 use crate::token::Token;
+use rsl_reply::Dictionary;
 use std::alloc::Global;
 use std::io;
 use std::net::{Ipv4Addr, Net, SocketAddr, SocketAddrV4, TcpListener, TcpStream};
@@ -58,9 +59,14 @@ impl Asks {
         self.client
     }
 
-    /// Puts asks to a server until it shall end, which is noticed within a second, or can answer no more. The
-    /// error is the system's, where whoever asks cannot be waited for.
-    pub fn take<S: Asked, R: Net + Clock + Wait>(&self, rt: &R, server: &mut S) -> io::Result<()> {
+    /// Puts asks to a server until it shall end, which is noticed within a second, or can answer no more. Their
+    /// answers have the names of a dictionary. The error is the system's, where whoever asks cannot be waited for.
+    pub fn take<S: Asked, R: Net + Clock + Wait>(
+        &self,
+        rt: &R,
+        names: &Dictionary,
+        server: &mut S,
+    ) -> io::Result<()> {
         let mut connections = AskConnections::new(rt, self.alloc, &self.listener)?;
         for _ in rt.forever() {
             if server.is_over() {
@@ -69,7 +75,7 @@ impl Asks {
             connections.wait()?;
             let now = millis(rt);
             connections.let_in(&self.listener, now);
-            if !connections.serve(&self.token, server, now) {
+            if !connections.serve(names, &self.token, server, now) {
                 break;
             }
         }

@@ -13,7 +13,7 @@ ghost use Rattle.std.specs.List.{list_any};
 ghost use Rattle.rld_attributes.specs.Listed.{attributes_of};
 ghost use Rattle.rld_attributes.specs.Written.{written};
 ghost use Rattle.rld_ask.specs.Reply.{
-  in_quotes,
+  bare,
   is_named,
   is_quoted,
   is_single,
@@ -33,12 +33,13 @@ ghost use Rattle.rld_ask.specs.Reply.{
   with_value,
 };
 
-use rld_attributes::{Written, attributes_of, write_attribute};
+use rld_attributes::{Written, attributes_of, push_escaped, write_attribute};
 use rld_values::push_text;
 use rsl_event::codes::{
     ACCT_INTERIM_INTERVAL, FRAMED_PROTOCOL, IDLE_TIMEOUT, MESSAGE_AUTHENTICATOR, PORT_LIMIT,
     PROXY_STATE, SERVICE_TYPE, SESSION_TIMEOUT,
 };
+use rsl_reply::Dictionary;
 use rsl_wire::Attrs;
 use std::alloc::{AllocError, Global};
 
@@ -54,10 +55,10 @@ type Told = (u8, Written);
 /// reply: `{"reply:NAME":{..,"value":["VALUE",..]},..}`, each name once, with all of its values as strings in
 /// their order. What an accept has once takes the place of what is there, and others are added.
 /// Message-Authenticator and Proxy-State are left out. It fails only where memory is refused.
-pub fn reply_json(alloc: Global, reply: &[u8]) -> Result<Vec<u8>, AllocError>
-    ensures { IfOk result (λ text. text.items ≡ json_of (attributes_of reply.now)) }
+pub fn reply_json(alloc: Global, names: &Dictionary, reply: &[u8]) -> Result<Vec<u8>, AllocError>
+    ensures { IfOk result (λ text. text.items ≡ json_of names.now (attributes_of reply.now)) }
 {
-    let told = told_in(alloc, reply)?;
+    let told = told_in(alloc, names, reply)?;
     let mut out = Vec::new(alloc);
     push_text(&mut out, "{")?;
     push_members(&mut out, told.as_slice())?;
@@ -66,23 +67,27 @@ pub fn reply_json(alloc: Global, reply: &[u8]) -> Result<Vec<u8>, AllocError>
 }
 
 /// The attributes of a reply that are told.
-fn told_in(alloc: Global, reply: &[u8]) -> Result<Vec<Told>, AllocError>
-    ensures { IfOk result (λ told. told.items ≡ told_of (attributes_of reply.now)) }
+fn told_in(alloc: Global, names: &Dictionary, reply: &[u8]) -> Result<Vec<Told>, AllocError>
+    ensures { IfOk result (λ told. told.items ≡ told_of names.now (attributes_of reply.now)) }
 {
     match attributes_of(reply) {
-        Some(attributes) => told_of(alloc, &attributes),
+        Some(attributes) => told_of(alloc, names, &attributes),
         None => Ok(Vec::new(alloc)),
     }
 }
 
 /// Those of these attributes that are told.
-fn told_of(alloc: Global, attributes: &Attrs<'_>) -> Result<Vec<Told>, AllocError>
-    ensures { IfOk result (λ told. told.items ≡ told_of attributes.now) }
+fn told_of(
+    alloc: Global,
+    names: &Dictionary,
+    attributes: &Attrs<'_>,
+) -> Result<Vec<Told>, AllocError>
+    ensures { IfOk result (λ told. told.items ≡ told_of names.now attributes.now) }
 {
     let mut told = Vec::new(alloc);
     for (kind, value) in attributes.iter() {
         if is_told(kind) {
-            told.push((kind, write_attribute(alloc, kind, value)?))?;
+            told.push((kind, write_attribute(alloc, names, kind, value)?))?;
         }
     }
     Ok(told)
@@ -174,35 +179,32 @@ fn opens(last: Option<&u8>) -> bool
     }
 }
 
-/// Writes a value as a string: a text has its quotation marks.
+/// Writes a value as a string, which FreeRADIUS reads as a text between quotation marks.
+#[tactic(auto, unfolding(crate::specs::Reply::in_quotes))]
 fn push_string(out: &mut Vec<u8>, value: &[u8]) -> Result<(), AllocError>
     ensures { OnOk result (out.new.items ≡ out.old.items ++ string value.now) }
 {
+    push_text(out, "\"")?;
+    push_escaped(out, bare(value))?;
+    push_text(out, "\"")
+}
+
+/// What stands between the quotation marks of a value, or all of it where it has none.
+fn bare(value: &[u8]) -> &[u8]
+    ensures { result.now ≡ bare value.now }
+{
     if is_quoted(value) {
-        out.extend_from_slice(value)
+        &value[1..value.len() - 1]
     } else {
-        push_in_quotes(out, value)
+        value
     }
 }
 
-/// Whether a value begins with a quotation mark.
+/// Whether a value stands between quotation marks.
 fn is_quoted(value: &[u8]) -> bool
     ensures { result ≡ is_quoted value.now }
 {
-    match value {
-        [] => false,
-        [first, ..] => *first == b'"',
-    }
-}
-
-/// Writes a value in quotation marks.
-#[tactic(auto, unfolding(crate::specs::Reply::in_quotes))]
-fn push_in_quotes(out: &mut Vec<u8>, value: &[u8]) -> Result<(), AllocError>
-    ensures { OnOk result (out.new.items ≡ out.old.items ++ in_quotes value.now) }
-{
-    push_text(out, "\"")?;
-    out.extend_from_slice(value)?;
-    push_text(out, "\"")
+    2 <= value.len() && value[0] == b'"' && value[value.len() - 1] == b'"'
 }
 
 /// How the values of an attribute are taken: those of which an accept has one at most take the place of
@@ -236,23 +238,28 @@ fn is_single(kind: u8) -> bool
 
 /// The attributes of a reply as lines: `NAME = VALUE`. Message-Authenticator and Proxy-State are left out. It
 /// fails only where memory is refused.
-pub fn reply_lines(alloc: Global, reply: &[u8]) -> Result<Vec<u8>, AllocError>
-    ensures { IfOk result (λ text. text.items ≡ lines_of (attributes_of reply.now)) }
+pub fn reply_lines(alloc: Global, names: &Dictionary, reply: &[u8]) -> Result<Vec<u8>, AllocError>
+    ensures { IfOk result (λ text. text.items ≡ lines_of names.now (attributes_of reply.now)) }
 {
     let mut out = Vec::new(alloc);
     if let Some(attributes) = attributes_of(reply) {
-        push_lines(alloc, &mut out, &attributes)?;
+        push_lines(alloc, names, &mut out, &attributes)?;
     }
     Ok(out)
 }
 
 /// Writes the lines of these attributes.
-fn push_lines(alloc: Global, out: &mut Vec<u8>, attributes: &Attrs<'_>) -> Result<(), AllocError>
-    ensures { OnOk result (out.new.items ≡ out.old.items ++ lines_of attributes.now) }
+fn push_lines(
+    alloc: Global,
+    names: &Dictionary,
+    out: &mut Vec<u8>,
+    attributes: &Attrs<'_>,
+) -> Result<(), AllocError>
+    ensures { OnOk result (out.new.items ≡ out.old.items ++ lines_of names.now attributes.now) }
 {
     for (kind, value) in attributes.iter() {
         if is_told(kind) {
-            push_line(alloc, out, kind, value)?;
+            push_line(alloc, names, out, kind, value)?;
         }
     }
     Ok(())
@@ -260,10 +267,16 @@ fn push_lines(alloc: Global, out: &mut Vec<u8>, attributes: &Attrs<'_>) -> Resul
 
 /// Writes the line of an attribute.
 #[tactic(auto, unfolding(crate::specs::Reply::line))]
-fn push_line(alloc: Global, out: &mut Vec<u8>, kind: u8, value: &[u8]) -> Result<(), AllocError>
-    ensures { OnOk result (out.new.items ≡ out.old.items ++ line kind value.now) }
+fn push_line(
+    alloc: Global,
+    names: &Dictionary,
+    out: &mut Vec<u8>,
+    kind: u8,
+    value: &[u8],
+) -> Result<(), AllocError>
+    ensures { OnOk result (out.new.items ≡ out.old.items ++ line names.now kind value.now) }
 {
-    let one = write_attribute(alloc, kind, value)?;
+    let one = write_attribute(alloc, names, kind, value)?;
     one.push(out)?;
     push_text(out, "\n")
 }

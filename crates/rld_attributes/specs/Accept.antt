@@ -2,6 +2,7 @@
 use Rattle.std.specs.Prelude.{ℕ, List, [], replicate, Option, option_map}
 use Rattle.rsl_wire.specs.Packet.{Fields}
 use Rattle.rsl_accounts.specs.Configuration.{Configuration}
+use Rattle.rsl_reply.specs.declared.dictionary.Dictionary.{Dictionary}
 use Rattle.rld_attributes.specs.Listed.{attributes_of, listed}
 use Rattle.rsl_event.specs.Answer.{answer_to}
 use Rattle.rsl_event.specs.declared.event.Decision.TheVariants.{Accept}
@@ -16,6 +17,6 @@ unfoldable pub accept_of : Configuration → (account : ℕ) → List ℕ
 accept_of config account = answer_to config 0 0 bare_request (Ask account) (Accept 0)
 
 -- what an accept has, of an account that is there
-abbrev pub accept_listed : Configuration → (account : Option ℕ) → Option (List ℕ)
-accept_listed config account =
-    option_map (λ number. listed (attributes_of (accept_of config number))) account
+abbrev pub accept_listed : Dictionary → Configuration → (account : Option ℕ) → Option (List ℕ)
+accept_listed names config account =
+    option_map (λ number. listed names (attributes_of (accept_of config number))) account

@@ -5,6 +5,7 @@ use Rattle.rsl_wire.specs.Attributes.{Attribute, attribute_octets, attribute_of,
 use Rattle.rsl_wire.specs.Packet.{Fields, packet_of}
 use Rattle.rsl_wire.specs.declared.packet.WireFault.{WireFault}
 use Rattle.rld_values.specs.Values.{hex}
+use Rattle.rsl_reply.specs.declared.dictionary.Dictionary.{Dictionary}
 use Rattle.rld_attributes.specs.Written.{pair, written}
 
 -- the attributes of a packet
@@ -20,14 +21,14 @@ abbrev pub is_lasting : (kind : ℕ) → Bool
 is_lasting kind = not (kind == 80) && not (kind == 25) && not (kind == 33)
 
 -- `NAME = VALUE`, a tab, and the octets in hexadecimal digits
-unfoldable pub listed_line : (kind : ℕ) (value : List ℕ) → List ℕ
-listed_line kind value =
-    pair (written kind value)
+unfoldable pub listed_line : Dictionary → (kind : ℕ) (value : List ℕ) → List ℕ
+listed_line names kind value =
+    pair (written names kind value)
     ++ (codes "\t" ++ (hex (attribute_octets (attribute_of kind value)) ++ codes "\n"))
 
-abbrev pub line_of : Attribute → List ℕ
-line_of attribute =
-    if is_lasting attribute.kind then listed_line attribute.kind attribute.value else []
+abbrev pub line_of : Dictionary → Attribute → List ℕ
+line_of names attribute =
+    if is_lasting attribute.kind then listed_line names attribute.kind attribute.value else []
 
-abbrev pub listed : List Attribute → List ℕ
-listed attributes = flat_map line_of attributes
+abbrev pub listed : Dictionary → List Attribute → List ℕ
+listed names attributes = flat_map (line_of names) attributes

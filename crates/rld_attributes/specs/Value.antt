@@ -1,27 +1,34 @@
 -- How a value is written in its form, where it has that form.
-use Rattle.std.specs.Prelude.{ℕ, ◌==◌, ◌&&◌, nat_le, nat_lt, Bool, if◌then◌else◌, List, [], ◌∷◌, ◌++◌, length, codes, Option, None, Some, option_map, is_some}
+use Rattle.std.specs.Prelude.{ℕ, ◌==◌, ◌&&◌, ◌||◌, nat_le, nat_lt, Bool, if◌then◌else◌, List, [], ◌∷◌, ◌++◌, length, codes, Option, None, Some, option_map, is_some}
 use Rattle.std.specs.Fmt.{decimal}
 use Rattle.std.specs.Int.{w32, from_be_bytes}
-use Rattle.std.specs.List.{list_all}
+use Rattle.std.specs.List.{list_all, flat_map}
 use Rattle.std.specs.Str.{is_utf8}
 use Rattle.std.specs.Net.Addr.{segments_of}
 use Rattle.std.specs.Net.Text.{ipv6_text}
 use Rattle.rld_networks.specs.Prefix.{prefix_of}
 use Rattle.rld_values.specs.Values.{dotted, hex}
 use Rattle.rsl_reply.specs.Dictionary.{name_of_value}
-use Rattle.rsl_reply.specs.Value.{is_plain}
-use Rattle.rsl_reply.specs.declared.form.Form.{Form}
-use Rattle.rsl_reply.specs.declared.form.Form.TheVariants.{Text, Octets, Number, Ipv4, Ipv6, Ipv6Prefix, TaggedNumber, TaggedText}
+use Rattle.rsl_reply.specs.Value.{is_escaped, is_plain}
+use Rattle.rsl_reply.specs.declared.dictionary.Dictionary.{Dictionary}
+use Rattle.rsl_accounts.specs.declared.reply_form.Form.{Form}
+use Rattle.rsl_accounts.specs.declared.reply_form.Form.TheVariants.{Text, Octets, Number, Ipv4, Ipv6, Ipv6Prefix, InterfaceId, TaggedNumber, TaggedText}
 
 -- ---- texts and octets
 
--- a text of one character or more, which a file of TOML has as it is
-abbrev pub is_text : (value : List ℕ) → Bool
-is_text value = nat_lt 0 (length value) && list_all is_plain value && is_utf8 value
+-- a text of one character or more, without control characters
+abbrev pub is_shown : (octet : ℕ) → Bool
+is_shown octet = is_plain octet || is_escaped octet
 
--- in quotation marks
+abbrev pub is_text : (value : List ℕ) → Bool
+is_text value = nat_lt 0 (length value) && list_all is_shown value && is_utf8 value
+
+-- in quotation marks, with a backslash before each of them and before another backslash
+abbrev pub escaped : (octet : ℕ) → List ℕ
+escaped octet = if is_escaped octet then 92 ∷ octet ∷ [] else octet ∷ []
+
 unfoldable pub quoted : (value : List ℕ) → List ℕ
-quoted value = codes "\"" ++ (value ++ codes "\"")
+quoted value = codes "\"" ++ (flat_map escaped value ++ codes "\"")
 
 abbrev pub text_in : (value : List ℕ) → Option (List ℕ)
 text_in value = if is_text value then Some (quoted value) else None
@@ -69,9 +76,9 @@ abbrev pub named_or_decimal : Option (List ℕ) → (number : ℕ) → List ℕ
 named_or_decimal (Some name) number = name
 named_or_decimal None number = decimal number
 
-abbrev pub number_text : (vendor kind number : ℕ) → List ℕ
-number_text vendor kind number =
-    named_or_decimal (if vendor == 0 then name_of_value kind number else None) number
+abbrev pub number_text : Dictionary → (vendor kind number : ℕ) → List ℕ
+number_text names vendor kind number =
+    named_or_decimal (name_of_value names vendor kind number) number
 
 -- ---- addresses (RFC 5952) and prefixes (RFC 3162 section 2.3)
 
@@ -94,15 +101,31 @@ ipv6_prefix_in (reserved ∷ len ∷ value) =
     if reserved == 0 then prefix_by (ipv6_in value) len else None
 ipv6_prefix_in _ = None
 
+-- an interface identifier (RFC 3162 section 2.2): four groups of hexadecimal digits, without zeros in front
+abbrev pub without_zeros : (digits : List ℕ) → List ℕ
+without_zeros [] = []
+without_zeros (digit ∷ []) = digit ∷ []
+without_zeros (digit ∷ next ∷ rest) =
+    if digit == 48 then without_zeros (next ∷ rest) else digit ∷ next ∷ rest
+
+abbrev pub group : (high low : ℕ) → List ℕ
+group high low = without_zeros (hex (high ∷ low ∷ []))
+
+abbrev pub interface_in : (value : List ℕ) → Option (List ℕ)
+interface_in (a ∷ b ∷ c ∷ d ∷ e ∷ f ∷ g ∷ h ∷ []) =
+    Some (group a b ++ (codes ":" ++ (group c d ++ (codes ":" ++ (group e f ++ (codes ":" ++ group g h))))))
+interface_in _ = None
+
 -- ---- the text of a value of an attribute, if it is of this form
 
-abbrev pub value_text : Form → (vendor kind : ℕ) → (value : List ℕ) → Option (List ℕ)
-value_text Text vendor kind value = text_in value
-value_text Octets vendor kind value = octets_in value
-value_text Number vendor kind value = option_map (number_text vendor kind) (number_in value)
-value_text Ipv4 vendor kind value = ipv4_in value
-value_text Ipv6 vendor kind value = ipv6_in value
-value_text Ipv6Prefix vendor kind value = ipv6_prefix_in value
-value_text TaggedNumber vendor kind value =
-    option_map (number_text vendor kind) (tagged_number_in value)
-value_text TaggedText vendor kind value = text_in (parted value).1
+abbrev pub value_text : Dictionary → Form → (vendor kind : ℕ) → (value : List ℕ) → Option (List ℕ)
+value_text names Text vendor kind value = text_in value
+value_text names Octets vendor kind value = octets_in value
+value_text names Number vendor kind value = option_map (number_text names vendor kind) (number_in value)
+value_text names Ipv4 vendor kind value = ipv4_in value
+value_text names Ipv6 vendor kind value = ipv6_in value
+value_text names Ipv6Prefix vendor kind value = ipv6_prefix_in value
+value_text names InterfaceId vendor kind value = interface_in value
+value_text names TaggedNumber vendor kind value =
+    option_map (number_text names vendor kind) (tagged_number_in value)
+value_text names TaggedText vendor kind value = text_in (parted value).1

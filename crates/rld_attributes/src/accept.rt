@@ -8,6 +8,7 @@ ghost use Rattle.rld_attributes.specs.Listed.{attributes_of, listed};
 use crate::listed::reply_listed;
 use rsl_accounts::Config;
 use rsl_event::{Decision, MeaningKind, reply_to};
+use rsl_reply::Dictionary;
 use rsl_wire::{Draft, NoMemory, Packet, read};
 use std::alloc::{AllocError, Global};
 
@@ -18,14 +19,15 @@ const BARE_REQUEST: [u8; 20] = [1, 0, 0, 20, 0, 0, 0, 0, 0, 0, 0, 0, 0, 0, 0, 0,
 /// sets, and then the account's own. None: no account has the name. It fails only where memory is refused.
 pub fn accept_listed(
     alloc: Global,
+    names: &Dictionary,
     config: &Config,
     name: &[u8],
 ) -> Result<Option<Vec<u8>>, AllocError>
     ensures { IfOk result (λ text. option_map (λ v. v.items) text ≡
-        accept_listed config.now (account_number config.now name.now)) }
+        accept_listed names.now config.now (account_number config.now name.now)) }
 {
     match account_named(config, name) {
-        Some(account) => Ok(Some(listed_of(alloc, config, account)?)),
+        Some(account) => Ok(Some(listed_of(alloc, names, config, account)?)),
         None => Ok(None),
     }
 }
@@ -40,13 +42,18 @@ fn account_named(config: &Config, name: &[u8]) -> Option<u32>
 }
 
 /// What an accept of this account has.
-fn listed_of(alloc: Global, config: &Config, account: u32) -> Result<Vec<u8>, AllocError>
+fn listed_of(
+    alloc: Global,
+    names: &Dictionary,
+    config: &Config,
+    account: u32,
+) -> Result<Vec<u8>, AllocError>
     requires { account < length config.now.accounts }
     ensures { IfOk result (λ text. text.items ≡
-        listed (attributes_of (accept_of config.now account))) }
+        listed names.now (attributes_of (accept_of config.now account))) }
 {
     match accept_of(alloc, config, account) {
-        Ok(reply) => reply_listed(alloc, reply.as_slice()),
+        Ok(reply) => reply_listed(alloc, names, reply.as_slice()),
         Err(NoMemory) => Err(AllocError),
     }
 }

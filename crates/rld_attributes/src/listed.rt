@@ -7,6 +7,7 @@ ghost use Rattle.rld_attributes.specs.Listed.{attributes_of, is_lasting, listed,
 
 use crate::written::write_attribute;
 use rld_values::{push_hex, push_text};
+use rsl_reply::Dictionary;
 use rsl_wire::{Attrs, read};
 use std::alloc::{AllocError, Global};
 
@@ -17,27 +18,32 @@ const PROXY_STATE: u8 = 33;
 /// Message-Authenticator (RFC 3579 section 3.2).
 const MESSAGE_AUTHENTICATOR: u8 = 80;
 
-/// The attributes of a reply, a line each: `NAME = VALUE`, a tab, and the attribute's octets in hexadecimal
+/// The attributes of a reply with the names of a dictionary, a line each: `NAME = VALUE`, a tab, and the attribute's octets in hexadecimal
 /// digits. Those that each reply has anew are left out: Message-Authenticator, Class and Proxy-State. It fails
 /// only where memory is refused.
-pub fn reply_listed(alloc: Global, reply: &[u8]) -> Result<Vec<u8>, AllocError>
-    ensures { IfOk result (λ text. text.items ≡ listed (attributes_of reply.now)) }
+pub fn reply_listed(alloc: Global, names: &Dictionary, reply: &[u8]) -> Result<Vec<u8>, AllocError>
+    ensures { IfOk result (λ text. text.items ≡ listed names.now (attributes_of reply.now)) }
 {
     let mut out = Vec::new(alloc);
     if let Some(attributes) = attributes_of(reply) {
-        push_lines(alloc, &mut out, &attributes)?;
+        push_lines(alloc, names, &mut out, &attributes)?;
     }
     Ok(out)
 }
 
 /// Writes the lines of these attributes.
-fn push_lines(alloc: Global, out: &mut Vec<u8>, attributes: &Attrs<'_>) -> Result<(), AllocError>
+fn push_lines(
+    alloc: Global,
+    names: &Dictionary,
+    out: &mut Vec<u8>,
+    attributes: &Attrs<'_>,
+) -> Result<(), AllocError>
     requires { AllByRecursion IsAttribute attributes.now }
-    ensures { OnOk result (out.new.items ≡ out.old.items ++ listed attributes.now) }
+    ensures { OnOk result (out.new.items ≡ out.old.items ++ listed names.now attributes.now) }
 {
     for (kind, value) in attributes.iter() {
         if is_lasting(kind) {
-            push_line(alloc, out, kind, value)?;
+            push_line(alloc, names, out, kind, value)?;
         }
     }
     Ok(())
@@ -45,11 +51,17 @@ fn push_lines(alloc: Global, out: &mut Vec<u8>, attributes: &Attrs<'_>) -> Resul
 
 /// Writes the line of an attribute.
 #[tactic(auto, unfolding(crate::specs::Listed::listed_line))]
-fn push_line(alloc: Global, out: &mut Vec<u8>, kind: u8, value: &[u8]) -> Result<(), AllocError>
+fn push_line(
+    alloc: Global,
+    names: &Dictionary,
+    out: &mut Vec<u8>,
+    kind: u8,
+    value: &[u8],
+) -> Result<(), AllocError>
     requires { length value.now ≤ 253 }
-    ensures { OnOk result (out.new.items ≡ out.old.items ++ listed_line kind value.now) }
+    ensures { OnOk result (out.new.items ≡ out.old.items ++ listed_line names.now kind value.now) }
 {
-    let one = write_attribute(alloc, kind, value)?;
+    let one = write_attribute(alloc, names, kind, value)?;
     one.push(out)?;
     push_text(out, "\t")?;
     push_octets(out, kind, value)?;

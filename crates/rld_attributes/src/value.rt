@@ -1,15 +1,18 @@
 //! How a value is written in its form.
-ghost use Rattle.std.specs.Prelude.{◌≡◌, ◌==◌, IfOk, if◌then◌else◌, option_copied, option_map};
-ghost use Rattle.std.specs.List.{list_all};
+ghost use Rattle.std.specs.Prelude.{◌≡◌, ◌++◌, IfOk, OnOk, option_map};
+ghost use Rattle.std.specs.List.{flat_map, list_all};
 ghost use Rattle.std.specs.Str.{is_utf8};
-ghost use Rattle.rsl_reply.specs.Dictionary.{name_of_value};
-ghost use Rattle.rsl_reply.specs.Value.{is_plain};
+ghost use Rattle.rsl_reply.specs.Value.{is_escaped};
 ghost use Rattle.rld_attributes.specs.Value.{
   digits,
+  escaped,
   first_octet,
+  group,
+  interface_in,
   ipv4_in,
   ipv6_in,
   ipv6_prefix_in,
+  is_shown,
   is_text,
   number_in,
   number_text,
@@ -22,11 +25,12 @@ ghost use Rattle.rld_attributes.specs.Value.{
   tagged_number_in,
   text_in,
   value_text,
+  without_zeros,
 };
 
 use rld_networks::prefix_of;
 use rld_values::{push_decimal, push_dotted, push_hex, push_text};
-use rsl_reply::{Form, name_of_value};
+use rsl_reply::{Dictionary, Form};
 use std::alloc::{AllocError, Global};
 use std::net::Ipv6Addr;
 use std::str;
@@ -37,40 +41,56 @@ const MAX_TAG: u8 = 31;
 /// The text of a value of an attribute, if it is of this form. It fails only where memory is refused.
 pub(crate) fn value_text(
     alloc: Global,
+    names: &Dictionary,
     form: Form,
     vendor: u32,
     kind: u8,
     value: &[u8],
 ) -> Result<Option<Vec<u8>>, AllocError>
     ensures { IfOk result (λ text. option_map (λ v. v.items) text ≡
-        value_text form vendor kind value.now) }
+        value_text names.now form vendor kind value.now) }
 {
     match form {
         Form::Text => text_in(alloc, value),
         Form::Octets => octets_in(alloc, value),
-        Form::Number => number_text(alloc, vendor, kind, number_in(value)),
+        Form::Number => number_text(alloc, names, vendor, kind, number_in(value)),
         Form::Ipv4 => ipv4_in(alloc, value),
         Form::Ipv6 => ipv6_in(alloc, value),
         Form::Ipv6Prefix => ipv6_prefix_in(alloc, value),
-        Form::TaggedNumber => number_text(alloc, vendor, kind, tagged_number_in(value)),
+        Form::InterfaceId => interface_in(alloc, value),
+        Form::TaggedNumber => number_text(alloc, names, vendor, kind, tagged_number_in(value)),
         Form::TaggedText => text_in(alloc, parted(value).1),
     }
 }
 
 // ---- texts and octets
 
-/// Whether octets are a text of one character or more that a file of TOML has as it is.
+/// Whether octets are a text of one character or more without control characters.
 fn is_text(value: &[u8]) -> bool
     ensures { result ≡ is_text value.now }
 {
-    !value.is_empty() && are_plain(value) && is_utf8(value)
+    !value.is_empty() && are_shown(value) && is_utf8(value)
 }
 
-/// Whether each octet is no control character, double quotation mark or backslash.
-fn are_plain(value: &[u8]) -> bool
-    ensures { result ≡ list_all is_plain value.now }
+/// Whether each octet is no control character.
+fn are_shown(value: &[u8]) -> bool
+    ensures { result ≡ list_all is_shown value.now }
 {
-    value.iter().all(|octet| 32 <= *octet && *octet != b'"' && *octet != b'\\' && *octet != 127)
+    value.iter().all(|octet| is_shown(*octet))
+}
+
+/// Whether an octet is no control character.
+fn is_shown(octet: u8) -> bool
+    ensures { result ≡ is_shown octet }
+{
+    32 <= octet && octet != 127
+}
+
+/// Whether a backslash has to stand before an octet in quotation marks.
+fn is_escaped(octet: u8) -> bool
+    ensures { result ≡ is_escaped octet }
+{
+    octet == b'"' || octet == b'\\'
 }
 
 /// Whether octets are UTF-8.
@@ -94,16 +114,31 @@ fn text_in(alloc: Global, value: &[u8]) -> Result<Option<Vec<u8>>, AllocError>
     }
 }
 
-/// Octets in quotation marks.
+/// Octets in quotation marks, with a backslash before each that needs one.
 #[tactic(auto, unfolding(crate::specs::Value::quoted))]
 fn quoted(alloc: Global, value: &[u8]) -> Result<Vec<u8>, AllocError>
     ensures { IfOk result (λ text. text.items ≡ quoted value.now) }
 {
     let mut out = Vec::new(alloc);
     push_text(&mut out, "\"")?;
-    out.extend_from_slice(value)?;
+    push_escaped(&mut out, value)?;
     push_text(&mut out, "\"")?;
     Ok(out)
+}
+
+/// Writes octets, with a backslash before each double quotation mark and each backslash. It fails only where
+/// memory is refused.
+pub fn push_escaped(out: &mut Vec<u8>, mut value: &[u8]) -> Result<(), AllocError>
+    ensures { OnOk result (out.new.items ≡ out.old.items ++ flat_map escaped value.entry.now) }
+{
+    while let [octet, rest @ ..] = value {
+        if is_escaped(*octet) {
+            push_text(out, "\\")?;
+        }
+        out.push(*octet)?;
+        value = rest;
+    }
+    Ok(())
 }
 
 /// Octets as 0x and hexadecimal digits, if there are any.
@@ -186,32 +221,22 @@ fn tagged_number_in(value: &[u8]) -> Option<u32>
     }
 }
 
-/// The name of a number in an attribute, if it is no vendor's and has one.
-fn name_of_number(vendor: u32, kind: u8, number: u32) -> Option<&'static str>
-    ensures { option_copied result ≡ if vendor == 0 then name_of_value kind number else None }
-{
-    if vendor == 0 {
-        name_of_value(kind, number)
-    } else {
-        None
-    }
-}
-
 /// A number of an attribute, by its name if it has one.
 fn number_text(
     alloc: Global,
+    names: &Dictionary,
     vendor: u32,
     kind: u8,
     number: Option<u32>,
 ) -> Result<Option<Vec<u8>>, AllocError>
     ensures { IfOk result (λ text. option_map (λ v. v.items) text ≡
-        option_map (number_text vendor kind) number) }
+        option_map (number_text names.now vendor kind) number) }
 {
     let Some(number) = number else {
         return Ok(None);
     };
     let mut out = Vec::new(alloc);
-    match name_of_number(vendor, kind, number) {
+    match names.name_of_value(vendor, kind, number) {
         Some(name) => push_text(&mut out, name)?,
         None => push_decimal(&mut out, u64::from(number))?,
     }
@@ -277,4 +302,46 @@ fn prefix_if(text: Vec<u8>) -> Option<Vec<u8>>
         Some(_) => Some(text),
         None => None,
     }
+}
+
+// ---- interface identifiers (RFC 3162 section 2.2)
+
+/// An interface identifier of eight octets.
+fn interface_in(alloc: Global, value: &[u8]) -> Result<Option<Vec<u8>>, AllocError>
+    ensures { IfOk result (λ text. option_map (λ v. v.items) text ≡ interface_in value.now) }
+{
+    let [a, b, c, d, e, f, g, h] = value else {
+        return Ok(None);
+    };
+    let mut out = Vec::new(alloc);
+    push_group(alloc, &mut out, *a, *b)?;
+    push_text(&mut out, ":")?;
+    push_group(alloc, &mut out, *c, *d)?;
+    push_text(&mut out, ":")?;
+    push_group(alloc, &mut out, *e, *f)?;
+    push_text(&mut out, ":")?;
+    push_group(alloc, &mut out, *g, *h)?;
+    Ok(Some(out))
+}
+
+/// Writes two octets as hexadecimal digits, without zeros in front.
+fn push_group(alloc: Global, out: &mut Vec<u8>, high: u8, low: u8) -> Result<(), AllocError>
+    ensures { OnOk result (out.new.items ≡ out.old.items ++ group high low) }
+{
+    let mut digits = Vec::new(alloc);
+    push_hex(&mut digits, &[high, low])?;
+    out.extend_from_slice(without_zeros(digits.as_slice()))
+}
+
+/// Digits without the zeros in front of them; the last one stays.
+fn without_zeros(mut digits: &[u8]) -> &[u8]
+    ensures { result.now ≡ without_zeros digits.entry.now }
+{
+    while let [b'0', rest @ ..] = digits {
+        if rest.is_empty() {
+            return digits;
+        }
+        digits = rest;
+    }
+    digits
 }

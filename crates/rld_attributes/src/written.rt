@@ -5,7 +5,7 @@ ghost use Rattle.rld_attributes.specs.Written.{by_numbers, numbers_name, pair, t
 use crate::carried::carried;
 use crate::value::{digits, tag_in, value_text};
 use rld_values::{push_decimal, push_text};
-use rsl_reply::{Form, name_of};
+use rsl_reply::{Dictionary, Form};
 use rsl_wire::Octets;
 use std::alloc::{AllocError, Global};
 
@@ -16,7 +16,7 @@ pub struct Written {
     /// numbers, as `Attr-11` or `Attr-26.14988.8`.
     pub name: Octets,
     /// The value: a text in quotation marks, a number or its name, an address, a prefix, or octets as `0x` and
-    /// hexadecimal digits. All of it is UTF-8, without control characters and backslashes.
+    /// hexadecimal digits. All of it is UTF-8 without control characters.
     pub value: Octets,
 }
 
@@ -32,24 +32,35 @@ impl Written {
     }
 }
 
-/// The attribute of this Type with this value, as an operator writes it: by the name that the table of
-/// `rsl_reply` has for it, and else, or where the value is not of that name's form, by its numbers. A Type 26
+/// The attribute of this Type with this value, as an operator writes it: by the name that a
+/// dictionary has for it, and else, or where the value is not of that name's form, by its numbers. A Type 26
 /// that carries one attribute of a vendor is told as that (RFC 2865 section 5.26). It fails only where memory
 /// is refused.
 #[tactic(auto, unfolding(crate::specs::Written::written))]
-pub fn write_attribute(alloc: Global, kind: u8, value: &[u8]) -> Result<Written, AllocError>
-    ensures { IfOk result (λ one. one ≡ written kind value.now) }
+pub fn write_attribute(
+    alloc: Global,
+    names: &Dictionary,
+    kind: u8,
+    value: &[u8],
+) -> Result<Written, AllocError>
+    ensures { IfOk result (λ one. one ≡ written names.now kind value.now) }
 {
     let (vendor, kind, value) = carried(kind, value);
-    written_as(alloc, vendor, kind, value)
+    written_as(alloc, names, vendor, kind, value)
 }
 
 /// An attribute of a vendor, or of none.
-fn written_as(alloc: Global, vendor: u32, kind: u8, value: &[u8]) -> Result<Written, AllocError>
-    ensures { IfOk result (λ one. one ≡ written_as (vendor, kind, value.now)) }
+fn written_as(
+    alloc: Global,
+    names: &Dictionary,
+    vendor: u32,
+    kind: u8,
+    value: &[u8],
+) -> Result<Written, AllocError>
+    ensures { IfOk result (λ one. one ≡ written_as names.now (vendor, kind, value.now)) }
 {
-    match name_of(vendor, kind) {
-        Some((name, form)) => written_by(alloc, vendor, kind, value, name, form),
+    match names.name_of(vendor, kind) {
+        Some((name, form)) => written_by(alloc, names, vendor, kind, value, name, form),
         None => by_numbers(alloc, vendor, kind, value),
     }
 }
@@ -57,6 +68,7 @@ fn written_as(alloc: Global, vendor: u32, kind: u8, value: &[u8]) -> Result<Writ
 /// An attribute that has this name, if its value is of the name's form.
 fn written_by(
     alloc: Global,
+    names: &Dictionary,
     vendor: u32,
     kind: u8,
     value: &[u8],
@@ -64,9 +76,9 @@ fn written_by(
     form: Form,
 ) -> Result<Written, AllocError>
     ensures { IfOk result (λ one. one ≡ written_by (vendor, kind, value.now) name.now form
-        (value_text form vendor kind value.now)) }
+        (value_text names.now form vendor kind value.now)) }
 {
-    match value_text(alloc, form, vendor, kind, value)? {
+    match value_text(alloc, names, form, vendor, kind, value)? {
         Some(text) => {
             let name = tagged_name(alloc, name, tag_in(form, value))?;
             in_octets(alloc, name.as_slice(), text.as_slice())

@@ -1,3 +1,4 @@
-pub mod Arguments
+pub mod Folder
+pub mod Outcome
 pub mod Status
-pub mod Waits
+pub mod Words

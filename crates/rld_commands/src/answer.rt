@@ -2,7 +2,7 @@
 
 ghost use Rattle.std.specs.Io.{ReadsAtMost};
 
-use crate::patience::Patience;
+use rld_words::Patience;
 use std::io::{self, ErrorKind, Read, Write};
 use std::os::unix::net::UnixStream;
 use std::time::{Clock, Duration, Instant};

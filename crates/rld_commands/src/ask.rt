@@ -1,13 +1,12 @@
 use crate::answer::Answer;
-use crate::command::Misuse;
 use crate::fault::Fault;
 use crate::files::paths_of;
+use crate::outcome::Outcome;
 use crate::output::say;
-use crate::patience::Patience;
-use crate::topic::Topic;
 use form_urlencoded::Serializer;
 use rld_config::Paths;
-use rld_control::{Command, Reply, is_unanswered};
+use rld_control::{Command, Reply};
+use rld_words::{Flag, Given, Misuse, Patience, Topic};
 use std::alloc::Global;
 use std::fs::Files;
 use std::io::{self, ErrorKind, IsTerminal, Write};
@@ -16,43 +15,37 @@ use std::os::unix::net::UnixStream;
 use std::path::PathBuf;
 use std::time::Clock;
 
-/// The flag before the number of seconds that an answer is waited for.
-const TIMEOUT: &str = "--timeout";
+/// The flags that a running server is sent, with their words.
+const SENT: [(Flag, &str); 3] = [
+    (Flag::Json, " --json"),
+    (Flag::Held, " --held"),
+    (Flag::Full, " --full"),
+];
 
-/// Sends the other words as a line to the running server of the file that the last word names, and
-/// writes the lines of its answer. `--timeout` and its seconds, which may come first, are not sent.
+/// Sends a command as a line to the running server of the file that the last word names, and writes the lines of
+/// its answer. `--timeout` and its seconds are not sent.
 ///
-/// `Usage` comes if they are no such command, before anything is read. `Silent` comes if no server
+/// `Usage` comes if the words are no such command, before anything is read. `Silent` comes if no server
 /// answers in full on the control socket of the file, `Late` if it takes longer than it may,
-/// `Unanswered` if an access server has not answered it, and `Refused` with the server's reason;
-/// `NotReady` comes in place of these for `ready`. On `stderr` is said that the server works on it, if
-/// it is a terminal.
+/// `NotHeld` if what is to be freed or disconnected is not held, `Unanswered` if an access server has not
+/// answered it, and `Refused` with the server's reason; `NotReady` comes in place of these for `ready`. On
+/// `stderr` is said that the server works on it, if it is a terminal.
 pub(crate) fn ask<R: Files + Net + Clock, W: Write, S: Write + IsTerminal>(
     rt: &R,
     alloc: Global,
     topic: Topic,
-    words: &[String],
+    given: &Given<'_>,
     writer: &mut W,
     stderr: &mut S,
 ) -> Result<(), Fault> {
-    let Some((name, words)) = words.split_last() else {
-        return Err(Fault::Usage(Misuse::Words(topic)));
-    };
-    let [command, words @ ..] = words else {
-        return Err(Fault::Usage(Misuse::Words(topic)));
-    };
-    if name.as_str().starts_with("--") {
-        return Err(Fault::Usage(Misuse::Words(topic)));
-    }
-    let (patience, words) = waiting(topic, words)?;
+    let (name, words) = given.file(topic)?;
+    let patience = patience_in(topic, given)?;
     let line = match topic {
-        Topic::Ask => ask_line(alloc, command, words)?,
-        // `free --disconnect` is the same command
-        Topic::Disconnect => line_of(alloc, "disconnect", words)?,
-        _ => line_of(alloc, command.as_str(), words)?,
+        Topic::Ask => ask_line(alloc, words)?,
+        _ => line_of(alloc, topic, given, words)?,
     };
     check_line(alloc, line.as_str(), topic)?;
-    let control = control_of(rt, alloc, name.as_str())?;
+    let control = control_of(rt, alloc, name)?;
     let asked = Asked {
         topic,
         path: control.as_str(),
@@ -76,18 +69,15 @@ pub(crate) fn control_of<F: Files>(files: &F, alloc: Global, name: &str) -> Resu
     Ok(control)
 }
 
-/// How long the answer to a command with these words is waited for, and the words without what says
-/// it. `Usage` comes for what is no number of seconds.
-pub(crate) fn waiting(topic: Topic, words: &[String]) -> Result<(Patience, &[String]), Fault> {
-    let patience = Patience::of(topic);
-    match words {
-        [flag, secs, rest @ ..] if patience.takes_timeout() && flag.as_str() == TIMEOUT => {
-            match Patience::of_word(secs.as_str()) {
-                Some(patience) => Ok((patience, rest)),
-                None => Err(Fault::Usage(Misuse::Unreadable(topic))),
-            }
-        }
-        words => Ok((patience, words)),
+/// How long the answer to a command is waited for, of which this is given. `Usage` comes where `--timeout` has no
+/// number of seconds.
+pub(crate) fn patience_in(topic: Topic, given: &Given<'_>) -> Result<Patience, Fault> {
+    match given.value(Flag::Timeout) {
+        Some(word) => match Patience::of_word(word) {
+            Some(patience) => Ok(patience),
+            None => Err(Fault::Usage(Misuse::Unreadable(topic))),
+        },
+        None => Ok(Patience::of(topic)),
     }
 }
 
@@ -104,8 +94,9 @@ pub(crate) struct Asked<'a> {
 
 impl Asked<'_> {
     /// The lines that it answers to a line. `Silent` comes if it does not answer in full, `Late` if it
-    /// takes longer than it may, `Unanswered` if an access server has not answered it, and `Refused`
-    /// with its reason; `NotReady` comes in place of these for `ready`.
+    /// takes longer than it may, `NotHeld` if what is to be freed or disconnected is not held, `Unanswered` if an
+    /// access server has not answered it, and `Refused` with its reason; `NotReady` comes in place of these for
+    /// `ready`.
     pub(crate) fn lines<R: Net + Clock, S: Write + IsTerminal>(
         &self,
         rt: &R,
@@ -114,13 +105,14 @@ impl Asked<'_> {
         stderr: &mut S,
     ) -> Result<Vec<u8>, Fault> {
         let mut octets = self.answer(rt, alloc, line, stderr)?;
-        let len = match Reply::of(octets.as_slice()) {
-            Reply::Done(lines) => lines.len(),
-            Reply::Refused(text) if is_unanswered(text) => return Err(Fault::Unanswered),
-            Reply::Refused(text) => {
+        let len = match Outcome::of(self.topic, Reply::of(octets.as_slice())) {
+            Outcome::Done(lines) => lines.len(),
+            Outcome::NotHeld => return Err(Fault::NotHeld),
+            Outcome::Unanswered => return Err(Fault::Unanswered),
+            Outcome::Refused(text) => {
                 return Err(self.refused(String::from_utf8_lossy(alloc, text)?));
             }
-            Reply::Broken => return Err(self.silent(alloc)?),
+            Outcome::Broken => return Err(self.silent(alloc)?),
         };
         octets.truncate(len);
         Ok(octets)
@@ -194,30 +186,41 @@ impl Asked<'_> {
     }
 }
 
-/// Words as one line, without its line feed.
-fn line_of(alloc: Global, command: &str, words: &[String]) -> Result<String, Fault> {
-    let mut line = String::from_str(alloc, command)?;
+/// A command as one line, without its line feed: its name, the flags that are sent, and its words.
+fn line_of(
+    alloc: Global,
+    topic: Topic,
+    given: &Given<'_>,
+    words: &[&str],
+) -> Result<String, Fault> {
+    let mut line = String::from_str(alloc, topic.word())?;
+    for (flag, word) in SENT {
+        if given.has(flag) {
+            line.push_str(word)?;
+        }
+    }
     for word in words {
         line.push_str(" ")?;
-        line.push_str(word.as_str())?;
+        line.push_str(word)?;
     }
     Ok(line)
 }
 
-/// The line of an ask: the first word after the command's name is the account's, and each other one a field of
-/// the form, `=` and its value.
-fn ask_line(alloc: Global, command: &String, words: &[String]) -> Result<String, Fault> {
+/// The line of an ask: the first word is the account's name, and each other one a field of the form, `=` and its
+/// value.
+fn ask_line(alloc: Global, words: &[&str]) -> Result<String, Fault> {
     let [name, fields @ ..] = words else {
         return Err(Fault::Usage(Misuse::Words(Topic::Ask)));
     };
     let mut form = Serializer::new(String::new(alloc));
-    form.append_pair("name", name.as_str())?;
+    form.append_pair("name", name)?;
     for field in fields {
-        let Some((field, value)) = field.as_str().split_once('=') else {
+        let Some((field, value)) = field.split_once('=') else {
             return Err(Fault::Usage(Misuse::Unreadable(Topic::Ask)));
         };
         form.append_pair(field, value)?;
     }
     let form = form.finish();
+    let command = Topic::Ask.word();
     Ok(format!(in alloc; "{command} {form}")?)
 }

@@ -5,6 +5,7 @@ use rld_config::{Paths, passed_over};
 use rld_networks::Network;
 use rld_warnings::warnings;
 use rsl_accounts::{Config, UnsignedRule};
+use rsl_reply::Dictionary;
 use std::alloc::Global;
 use std::fs::Files;
 use std::io::Write;
@@ -14,12 +15,13 @@ use std::io::Write;
 pub(crate) fn check<F: Files, W: Write>(
     files: &F,
     alloc: Global,
+    names: &Dictionary,
     name: &str,
     writer: &mut W,
 ) -> Result<(), Fault> {
     let server = server_file(files, alloc, name)?;
     let paths = Paths::of(alloc, name, &server)?;
-    let accounts = accounts_for(files, alloc, name, &server, paths.accounts.as_str())?;
+    let accounts = accounts_for(files, alloc, names, name, &server, paths.accounts.as_str())?;
     if let Some(path) = &paths.token {
         let _token = token_in(files, alloc, path.as_str())?;
     }

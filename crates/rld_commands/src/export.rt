@@ -1,29 +1,18 @@
 //! `radlimitd export`: the sessions of the logs of a state folder.
 
-use crate::command::Misuse;
+use crate::cause::cause_of;
 use crate::fault::Fault;
 use crate::files::{bad_file, state_of};
 use crate::lines::{bad_log, octets_of};
-use crate::topic::Topic;
 use crate::wrong::Wrong;
 use rld_export::{Export, Form, Span, Wanted, read_moment};
 use rld_folder::{FileName, Generation};
 use rld_lines::{LinesFault, LogFile};
+use rld_words::{Flag, Given, Misuse, Topic};
 use rsl_wire::NoMemory;
 use std::alloc::Global;
 use std::fs::{self, File, Files};
 use std::io::{ErrorKind, Write};
-
-/// What a word before the last one stands for.
-#[derive(Clone, Copy)]
-enum Place {
-    /// A flag.
-    Flag,
-    /// The moment after `--since`.
-    Since,
-    /// The moment after `--until`.
-    Until,
-}
 
 /// The paths of a log: in the state folder, and in its archive.
 #[derive(Drop)]
@@ -43,21 +32,18 @@ struct LogPaths {
 pub(crate) fn export<R, W: Write, S: Write>(
     rt: &R,
     alloc: Global,
-    words: &[String],
+    given: &Given<'_>,
     writer: &mut W,
     stderr: &mut S,
 ) -> Result<(), Fault>
 where
     R: Files<File = File> + Alloc<A = Global> + Clone + Drop,
 {
-    let Some((name, flags)) = words.split_last() else {
-        return Err(Fault::Usage(Misuse::Words(Topic::Export)));
+    let (name, []) = given.file(Topic::Export)? else {
+        return unreadable();
     };
-    if name.as_str().starts_with("--") {
-        return Err(Fault::Usage(Misuse::Words(Topic::Export)));
-    }
-    let wanted = wanted_of(alloc, flags)?;
-    let state = state_of(rt, alloc, name.as_str())?;
+    let wanted = wanted_of(alloc, given)?;
+    let state = state_of(rt, alloc, name)?;
     let logs = logs_of(rt, alloc, state.as_str())?;
     export_logs(
         rt,
@@ -123,44 +109,30 @@ fn say_torn<S: Write>(
     Ok(())
 }
 
-/// What flags ask for: `--csv`, and `--since` and `--until` with a moment after each.
-fn wanted_of(alloc: Global, flags: &[String]) -> Result<Wanted, Fault> {
-    let mut form = Form::Json;
-    let mut span = Span {
-        since: 0,
-        until: u64::MAX,
+/// What flags ask for: `--csv`, and `--since` and `--until` with a moment after each, the first of which is the
+/// lower.
+fn wanted_of(alloc: Global, given: &Given<'_>) -> Result<Wanted, Fault> {
+    let form = if given.has(Flag::Csv) {
+        Form::Csv
+    } else {
+        Form::Json
     };
-    let mut place = Place::Flag;
-    for word in flags {
-        let word = word.as_str();
-        place = match place {
-            Place::Since => {
-                span.since = moment_of(alloc, word)?;
-                Place::Flag
-            }
-            Place::Until => {
-                span.until = moment_of(alloc, word)?;
-                Place::Flag
-            }
-            Place::Flag => match word {
-                "--csv" => {
-                    form = Form::Csv;
-                    Place::Flag
-                }
-                "--since" => Place::Since,
-                "--until" => Place::Until,
-                _ => return unreadable(),
-            },
-        };
-    }
-    match place {
-        Place::Flag if span.since < span.until => Ok(Wanted { form, span }),
-        Place::Flag | Place::Since | Place::Until => unreadable(),
+    let span = Span {
+        since: moment_of(alloc, given.value(Flag::Since), 0)?,
+        until: moment_of(alloc, given.value(Flag::Until), u64::MAX)?,
+    };
+    if span.since < span.until {
+        Ok(Wanted { form, span })
+    } else {
+        unreadable()
     }
 }
 
-/// The moment that a word names.
-fn moment_of(alloc: Global, word: &str) -> Result<u64, Fault> {
+/// The moment that a word names, or else this one where there is no word.
+fn moment_of(alloc: Global, word: Option<&str>, none: u64) -> Result<u64, Fault> {
+    let Some(word) = word else {
+        return Ok(none);
+    };
     match read_moment(alloc, word)? {
         Some(moment) => Ok(moment),
         None => unreadable(),
@@ -215,7 +187,7 @@ where
 {
     let entries = match fs::read_dir(rt, folder) {
         Ok(entries) => entries,
-        Err(_) => return bad_file(alloc, folder, None, Wrong::Unreadable),
+        Err(error) => return bad_file(alloc, folder, Wrong::Unreadable(cause_of(error.kind()))),
     };
     for entry in entries {
         match entry {
@@ -226,7 +198,9 @@ where
             }
             // A name that is not UTF-8 is not one of the server's.
             Err(error) if error.kind() == ErrorKind::InvalidFilename => {}
-            Err(_) => return bad_file(alloc, folder, None, Wrong::Unreadable),
+            Err(error) => {
+                return bad_file(alloc, folder, Wrong::Unreadable(cause_of(error.kind())));
+            }
         }
     }
     Ok(())

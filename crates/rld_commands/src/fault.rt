@@ -1,13 +1,15 @@
 ghost use Rattle.std.specs.Prelude.{◌≡◌};
-ghost use Rattle.rld_commands.specs.declared.fault.Fault.TheVariants.{InputOutput, NoMemory as no_memory, Run, Start};
+ghost use Rattle.rld_commands.specs.declared.fault.Fault.TheVariants.{InputOutput, NoMemory as no_memory, Run, Start, Usage};
 
-use crate::command::Misuse;
+use crate::exit::Exit;
 use crate::wrong::{BadFile, BadLog};
 use rld_edges::RunFault;
 use rld_start::{EndStatus, StartFault};
+use rld_words::{Misuse, WordsFault};
 use rsl_wire::NoMemory;
 use std::alloc::AllocError;
 use std::io;
+use std::net::SocketAddr;
 use thiserror::Error;
 
 /// Why the program does not end well. It prints as the line for standard error.
@@ -28,9 +30,12 @@ pub enum Fault {
     /// The server has not started its threads and sockets, or could not go on.
     #[error("{0}")]
     Run(RunFault),
-    /// The control socket cannot be made at this path.
-    #[error("{0}: cannot be bound")]
-    Control(String),
+    /// A socket cannot be bound to this address and port, for this cause.
+    #[error("{0}: cannot be bound: {1}")]
+    Unbound(SocketAddr, &'static str),
+    /// The control socket cannot be made at this path, for this cause.
+    #[error("{0}: cannot be bound: {1}")]
+    Control(String, &'static str),
     /// No server answers on the control socket of this path.
     #[error("{0}: no server answers")]
     Silent(String),
@@ -52,6 +57,9 @@ pub enum Fault {
     /// An access server has not answered the request to disconnect a session.
     #[error("no answer from the access server")]
     Unanswered,
+    /// What is to be freed or disconnected is not held.
+    #[error("no such session")]
+    NotHeld,
     /// Nobody can be asked whether to free all sessions of an access server.
     #[error("standard input is no terminal: say --yes")]
     NoTerminal,
@@ -61,30 +69,57 @@ pub enum Fault {
     /// Memory was refused.
     #[error("no memory")]
     NoMemory,
+    /// Memory was refused to a command whose status 3 says something else.
+    #[error("no memory")]
+    NoRoom,
 }
 
 impl Fault {
     ghost use Rattle.rld_commands.specs.Status.{fault_status};
 
     /// The exit status of the process.
-    pub fn status(&self) -> EndStatus
+    pub fn status(&self) -> Exit
         ensures { result ≡ fault_status self.now }
     {
         match self {
             Fault::Usage(_) | Fault::BadFile(_) | Fault::BadLog(_) | Fault::NoTerminal => {
-                EndStatus::WrongInput
+                Exit::As(EndStatus::WrongInput)
             }
-            Fault::Start(fault) => fault.status(),
-            Fault::Run(fault) => fault.status(),
-            Fault::Control(_)
+            Fault::Start(fault) => Exit::As(fault.status()),
+            Fault::Run(fault) => Exit::As(fault.status()),
+            Fault::Unbound(_, _)
+            | Fault::Control(_, _)
             | Fault::Silent(_)
             | Fault::Taken(_)
             | Fault::Unwritten(_)
             | Fault::Refused(_)
-            | Fault::InputOutput => EndStatus::InputOutput,
-            Fault::NoMemory => EndStatus::NoMemory,
-            Fault::NotReady(_) => EndStatus::NotReady,
-            Fault::Late(_, _) | Fault::Unanswered => EndStatus::TimedOut,
+            | Fault::InputOutput
+            | Fault::NoRoom => Exit::As(EndStatus::InputOutput),
+            Fault::NoMemory => Exit::As(EndStatus::NoMemory),
+            Fault::NotReady(_) => Exit::As(EndStatus::NotReady),
+            Fault::Late(_, _) | Fault::Unanswered => Exit::As(EndStatus::TimedOut),
+            Fault::NotHeld => Exit::NotHeld,
+        }
+    }
+}
+
+impl From<Misuse> for Fault {
+    ghost from_gives = { λ misuse fault. fault ≡ Usage misuse };
+
+    fn from(misuse: Misuse) -> Fault {
+        Fault::Usage(misuse)
+    }
+}
+
+impl From<WordsFault> for Fault {
+    ghost use Rattle.rld_commands.specs.Words.{fault_of_words};
+
+    ghost from_gives = { λ fault made. made ≡ fault_of_words fault };
+
+    fn from(fault: WordsFault) -> Fault {
+        match fault {
+            WordsFault::Misuse(misuse) => Fault::Usage(misuse),
+            WordsFault::NoMemory => Fault::NoMemory,
         }
     }
 }

@@ -3,14 +3,18 @@
 //! No clause speaks of what the system's files give; `ServerFile::read` and `read_config` read
 //! their texts.
 
+use crate::cause::{cause_in, cause_of};
 use crate::fault::Fault;
+use crate::folder::check_folder;
 use crate::wrong::{BadFile, Wrong};
 use rld_config::{
-    Exposure, Paths, Place, ServerFault, ServerFile, asker_fault, break_of, shadowed_client,
-    unknown_client, unsigned_client,
+    Exposure, Paths, ServerFault, ServerFile, asker_fault, shadowed_client, unknown_client,
+    unsigned_client,
 };
+use rld_faults::{account_faults, fault_of_key, misfits, server_faults};
 use rsl_account_file::{TextFault, read_config, read_file};
 use rsl_accounts::{Config, ConfigFault};
+use rsl_reply::Dictionary;
 use std::alloc::Global;
 use std::fs::{self, Files};
 use std::os::unix::fs::PermissionsExt;
@@ -36,11 +40,10 @@ pub fn server_file<F: Files>(files: &F, alloc: Global, name: &str) -> Result<Ser
     match ServerFile::read(alloc, text.as_slice()) {
         Ok(server) => Ok(server),
         Err(ServerFault::NoMemory) => Err(Fault::NoMemory),
-        Err(ServerFault::NotToml) => {
-            let place = break_of(alloc, text.as_slice())?;
-            bad_file(alloc, name, place, Wrong::Server(ServerFault::NotToml))
+        Err(fault) => {
+            let faults = server_faults(alloc, text.as_slice(), &fault)?;
+            bad_file(alloc, name, Wrong::Faults(faults))
         }
-        Err(fault) => bad_file(alloc, name, None, Wrong::Server(fault)),
     }
 }
 
@@ -56,25 +59,45 @@ pub(crate) fn state_of<F: Files>(files: &F, alloc: Global, name: &str) -> Result
     Ok(state)
 }
 
-/// The account file of this path, if it fits the server's file, which has this name: it has the
+/// The account file of this path, whose attributes have the names of a dictionary, if it fits the server's file, which has this name: it has the
 /// client of each network, which has to sign under a guard; no network takes the address of another
-/// client; and no other user may write to it, nor read it unless the server's file allows that.
+/// client; no other user may write to it, nor read it unless the server's file allows that; and no other user may
+/// write to the folders of both files.
 pub fn accounts_for<F: Files>(
     files: &F,
     alloc: Global,
+    names: &Dictionary,
     name: &str,
     server: &ServerFile,
     path: &str,
 ) -> Result<AccountFile, Fault> {
-    let accounts = account_file(files, alloc, path)?;
+    let accounts = account_file(files, alloc, names, path)?;
     if let Some(fault) = misfit(server, &accounts.config) {
-        return bad_file(alloc, name, None, Wrong::Server(fault));
+        let text = file_text(files, alloc, name)?;
+        let faults = misfits(alloc, text.as_slice(), server, &accounts.config, &fault)?;
+        return bad_file(alloc, name, Wrong::Faults(faults));
     }
     match server.trust.exposure(accounts.mode) {
-        Some(Exposure::Writable) => bad_file(alloc, path, None, Wrong::Writable),
-        Some(Exposure::Readable) => bad_file(alloc, path, None, Wrong::Readable),
-        None => Ok(accounts),
+        Some(Exposure::Writable) => return bad_file(alloc, path, Wrong::Writable),
+        Some(Exposure::Readable) => return bad_file(alloc, path, Wrong::Readable),
+        None => {}
     }
+    check_folder(files, alloc, name)?;
+    check_folder(files, alloc, path)?;
+    Ok(accounts)
+}
+
+/// The fault of a server's file of this name that names a group which the system does not know.
+pub fn unknown_group<F: Files, T>(
+    files: &F,
+    alloc: Global,
+    name: &str,
+    group: &str,
+) -> Result<T, Fault> {
+    let text = file_text(files, alloc, name)?;
+    let wrong = format!(in alloc; "is {group:?}; the system has no group of this name")?;
+    let faults = fault_of_key(alloc, text.as_slice(), "control", "group", wrong.as_str())?;
+    bad_file(alloc, name, Wrong::Faults(faults))
 }
 
 /// The first fault of a server's file whose account file has this configuration: a network whose client it does
@@ -95,16 +118,20 @@ fn misfit(server: &ServerFile, config: &Config) -> Option<ServerFault> {
 }
 
 /// The account file of this name, with its mode and its text.
-pub fn account_file<F: Files>(files: &F, alloc: Global, name: &str) -> Result<AccountFile, Fault> {
+pub fn account_file<F: Files>(
+    files: &F,
+    alloc: Global,
+    names: &Dictionary,
+    name: &str,
+) -> Result<AccountFile, Fault> {
     let text = file_text(files, alloc, name)?;
-    let config = match read_config(alloc, text.as_slice()) {
+    let config = match read_config(alloc, names, text.as_slice()) {
         Ok(config) => config,
         Err(ConfigFault::NoMemory) => return Err(Fault::NoMemory),
-        Err(ConfigFault::NotToml) => {
-            let place = break_of(alloc, text.as_slice())?;
-            return bad_file(alloc, name, place, Wrong::Accounts(ConfigFault::NotToml));
+        Err(fault) => {
+            let faults = account_faults(alloc, names, text.as_slice(), &fault)?;
+            return bad_file(alloc, name, Wrong::Faults(faults));
         }
-        Err(fault) => return bad_file(alloc, name, None, Wrong::Accounts(fault)),
     };
     match fs::metadata(files, name) {
         Ok(found) => Ok(AccountFile {
@@ -112,29 +139,29 @@ pub fn account_file<F: Files>(files: &F, alloc: Global, name: &str) -> Result<Ac
             mode: found.permissions().mode(),
             text,
         }),
-        Err(_) => bad_file(alloc, name, None, Wrong::Unreadable),
+        Err(error) => bad_file(alloc, name, Wrong::Unreadable(cause_of(error.kind()))),
     }
 }
 
 /// The text of the file of this name.
-pub fn file_text<F: Files>(files: &F, alloc: Global, name: &str) -> Result<Vec<u8>, Fault> {
+pub(crate) fn file_text<F: Files>(files: &F, alloc: Global, name: &str) -> Result<Vec<u8>, Fault> {
     match read_file(files, alloc, name, MAX_FILE_LEN) {
         Ok(text) => Ok(text),
-        Err(TextFault::Unreadable) => bad_file(alloc, name, None, Wrong::Unreadable),
-        Err(TextFault::TooLong) => bad_file(alloc, name, None, Wrong::TooLong),
+        Err(TextFault::Unreadable) => unreadable(files, alloc, name),
+        Err(TextFault::TooLong) => bad_file(alloc, name, Wrong::TooLong),
         Err(TextFault::NoMemory) => Err(Fault::NoMemory),
     }
 }
 
+/// The fault of a file that cannot be read, with its cause.
+pub(crate) fn unreadable<F: Files, T>(files: &F, alloc: Global, name: &str) -> Result<T, Fault> {
+    bad_file(alloc, name, Wrong::Unreadable(cause_in(files, name)))
+}
+
 /// The fault of a wrong file.
-pub fn bad_file<T>(
-    alloc: Global,
-    name: &str,
-    place: Option<Place>,
-    wrong: Wrong,
-) -> Result<T, Fault> {
+pub(crate) fn bad_file<T>(alloc: Global, name: &str, wrong: Wrong) -> Result<T, Fault> {
     match String::from_str(alloc, name) {
-        Ok(name) => Err(Fault::BadFile(BadFile { name, place, wrong })),
+        Ok(name) => Err(Fault::BadFile(BadFile { name, wrong })),
         Err(_) => Err(Fault::NoMemory),
     }
 }

@@ -2,23 +2,15 @@
 
 use crate::ask::{Asked, ask, check_line, control_of};
 use crate::fault::Fault;
-use crate::flags::Flags;
 use crate::output::say;
-use crate::patience::Patience;
 use crate::sessions::list;
-use crate::topic::Topic;
 use rld_control::read_line;
+use rld_words::{Flag, Flags, Given, Misuse, Patience, Topic};
 use std::alloc::Global;
 use std::fs::Files;
 use std::io::{IsTerminal, Read, Write};
 use std::net::Net;
 use std::time::Clock;
-
-/// The flag by which the access server is to end the session first.
-const DISCONNECT: &str = "--disconnect";
-
-/// The flag that says yes.
-const YES: &str = "--yes";
 
 /// The most octets of an answer at a terminal, with its line feed.
 const ANSWER_LEN: usize = 16;
@@ -36,53 +28,15 @@ struct Server<'a> {
     has_yes: bool,
 }
 
-impl<'a> Server<'a> {
-    /// The access server of the words of `free`, if they have one: `--nas`, its word, its client's and
-    /// the name of a file, with `--yes` before them, between them or nowhere.
-    fn of_words(words: &'a [String]) -> Option<Server<'a>> {
-        match words {
-            [_, flag, nas, client, name] => Server::of_flag(flag, nas, client, name, false),
-            [_, yes, flag, nas, client, name] if yes.as_str() == YES => {
-                Server::of_flag(flag, nas, client, name, true)
-            }
-            [_, flag, nas, yes, client, name] if yes.as_str() == YES => {
-                Server::of_flag(flag, nas, client, name, true)
-            }
-            [_, flag, nas, client, yes, name] if yes.as_str() == YES => {
-                Server::of_flag(flag, nas, client, name, true)
-            }
-            _ => None,
-        }
-    }
-
-    /// The access server of these words, if the first is `--nas`.
-    fn of_flag(
-        flag: &'a String,
-        nas: &'a String,
-        client: &'a String,
-        name: &'a String,
-        has_yes: bool,
-    ) -> Option<Server<'a>> {
-        if flag.as_str() != "--nas" {
-            return None;
-        }
-        Some(Server {
-            name: name.as_str(),
-            nas: nas.as_str(),
-            client: client.as_str(),
-            has_yes,
-        })
-    }
-}
-
 /// Frees what the words of `free` name: a session, with `--disconnect` once its access server has ended
 /// it, or with `--nas` all those of an access server, once these are listed and it was said yes.
 ///
-/// The faults are those of `ask`. `NoTerminal` comes before anything is asked, if nobody can say yes.
+/// The faults are those of `ask`. `NoTerminal` comes before anything is asked, if nobody can say yes, and `NotHeld`
+/// also where the access server has no session.
 pub(crate) fn free<R, I: Read + IsTerminal, W: Write, S: Write + IsTerminal>(
     rt: &R,
     alloc: Global,
-    words: &[String],
+    given: &Given<'_>,
     stdin: &mut I,
     stdout: &mut W,
     stderr: &mut S,
@@ -90,23 +44,29 @@ pub(crate) fn free<R, I: Read + IsTerminal, W: Write, S: Write + IsTerminal>(
 where
     R: Files + Net + Clock,
 {
-    if let [_, rest @ ..] = words {
-        if let [first, ..] = rest {
-            if first.as_str() == DISCONNECT {
-                return ask(rt, alloc, Topic::Disconnect, rest, stdout, stderr);
-            }
+    let has_yes = given.has(Flag::Yes);
+    match (given.value(Flag::Nas), given.plain()) {
+        (None, _) if given.has(Flag::Disconnect) && !has_yes => {
+            ask(rt, alloc, Topic::Disconnect, given, stdout, stderr)
         }
-    }
-    match Server::of_words(words) {
-        Some(server) => free_server(rt, alloc, server, stdin, stdout, stderr),
-        None => ask(rt, alloc, Topic::Free, words, stdout, stderr),
+        (None, _) if !has_yes => ask(rt, alloc, Topic::Free, given, stdout, stderr),
+        (Some(nas), [client, name]) if !given.has(Flag::Disconnect) => {
+            let server = Server {
+                name,
+                nas,
+                client,
+                has_yes,
+            };
+            free_server(rt, alloc, server, stdin, stdout, stderr)
+        }
+        _ => Err(Fault::Usage(Misuse::Unreadable(Topic::Free))),
     }
 }
 
 /// Frees the places of all sessions of an access server, once these are listed and it was said yes.
 ///
 /// `Usage` comes before anything is asked if its words name none, and then `NoTerminal` if nobody can say
-/// yes. The other faults are those of `Asked::lines`: sessions may have been listed before.
+/// yes; `NotHeld` where it has no session. The other faults are those of `Asked::lines`: sessions may have been listed before.
 fn free_server<R, I: Read + IsTerminal, W: Write, S: Write + IsTerminal>(
     rt: &R,
     alloc: Global,
@@ -133,7 +93,7 @@ where
     let flags = Flags::of_server(nas, client);
     let number = list(rt, alloc, &asked, &flags, stdout, stderr)?;
     if number == 0 {
-        return say(stdout, b"no such session\n");
+        return Err(Fault::NotHeld);
     }
     if !is_agreed(alloc, server, number, stdin, stderr)? {
         return say(stdout, b"nothing freed\n");

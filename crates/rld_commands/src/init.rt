@@ -127,6 +127,9 @@ sync = "always"
 # How long old logs are kept, for audit: a number of days, "keep" or "none".
 archive = 7
 
+# How many megabytes they may have. Where they have more the oldest go, and so they do where the disk is full.
+archive_megabytes = 2000
+
 # Where requests come to: up to 16 of these tables.
 [[listen]]
 address = "127.0.0.1"           # the one that your access servers are set to; "0.0.0.0" is all of IPv4, "::" all
@@ -144,18 +147,11 @@ const ACCOUNTS_HEAD: &str =
     r#"# The account file of a radlimitd: who may ask, and who may log in. Secrets and passwords stand here in clear text: let
 # nobody else read this file. radlimit-accounts(5) has every key.
 
-version = 3            # of this format
-
-# Into how many parts the accounts are spread, 1 to 4, and times in seconds, 1 to 86,400 each.
-shards = 2
-reserve_secs = 60      # an accept keeps its place for so long, until the session's Start
-live_secs = 900        # a session is live for so long after its last packet: two or three interim intervals or more
-grace_secs = 900       # and then keeps its place for so long, unless a new login takes it
-closed_secs = 3600     # a stopped session stays closed for so long: a late Start is ignored
-keep_secs = 15         # a request that is sent again gets its answer again for so long; at most reserve_secs
-# interim_secs = 300   # an accept asks for an Interim-Update so often, 60 to 86,400; at most half of live_secs
-# station = true       # a login ends the session that its device (Calling-Station-Id) still holds; also in [[account]]
-# delay_time = true    # a restart that is told late ends only what began before it, by its Acct-Delay-Time
+# Times have defaults, which that page says.
+version = 3                                   # of this format
+# interim_secs = 300                          # an accept asks for an Interim-Update so often; at most half of live_secs, 900
+# station = true                              # a login ends the session that its device (Calling-Station-Id) still holds
+# delay_time = true                           # a restart that is told late ends only what began before it
 
 # An access server: up to 256 of these tables. This one is this machine.
 [[client]]
@@ -171,6 +167,6 @@ const ACCOUNTS_END: &str = r#""  # what it shares with this server, at random
 name = "nemo"                                 # the whole User-Name: 1 to 64 visible characters of ASCII
 password = "arctangent"                       # 1 to 128 octets
 places = 1                                    # the sessions that it may have at once, 0 to 64
-ports = 1                                     # links of one multilink bundle that share a place, 1 to 16
+# ports = 2                                   # links of one multilink bundle that share a place, 1 to 16; 1 if left out
 # disabled = true                             # rejects its logins; sessions that go on count until they end
 "#;

@@ -1,7 +1,7 @@
 //! `radlimitd lines`: the moves of logs, with their decisions.
 
 use crate::fault::Fault;
-use crate::files::bad_file;
+use crate::files::{bad_file, unreadable};
 use crate::wrong::{BadLog, Wrong};
 use rld_folder::{FileName, Generation};
 use rld_lines::{LinesFault, LogFile, write_lines};
@@ -22,12 +22,12 @@ use std::path::{Path, PathBuf};
 pub(crate) fn lines<F: Files, W: Write, S: Write>(
     files: &F,
     alloc: Global,
-    names: &[String],
+    names: &[&str],
     writer: &mut W,
     stderr: &mut S,
 ) -> Result<(), Fault> {
     for name in names {
-        lines_of(files, alloc, name.as_str(), writer, stderr)?;
+        lines_of(files, alloc, name, writer, stderr)?;
     }
     Ok(writer.flush()?)
 }
@@ -69,7 +69,7 @@ fn generation_of(alloc: Global, name: &str) -> Result<Generation, Fault> {
             return Ok(generation);
         }
     }
-    bad_file(alloc, name, None, Wrong::NoLog)
+    bad_file(alloc, name, Wrong::NoLog)
 }
 
 /// The path of the era's file of a log: beside it, or in the folder above if it is there and not
@@ -93,8 +93,8 @@ pub(crate) fn octets_of<F: Files>(files: &F, alloc: Global, name: &str) -> Resul
     match read_file(files, alloc, name, u32::MAX) {
         Ok(octets) => Ok(octets),
         Err(TextFault::NoMemory) => Err(Fault::NoMemory),
-        Err(TextFault::TooLong) => bad_file(alloc, name, None, Wrong::TooLong),
-        Err(TextFault::Unreadable) => bad_file(alloc, name, None, Wrong::Unreadable),
+        Err(TextFault::TooLong) => bad_file(alloc, name, Wrong::TooLong),
+        Err(TextFault::Unreadable) => unreadable(files, alloc, name),
     }
 }
 

@@ -1,6 +1,7 @@
 use crate::fault::Fault;
 use crate::files::{account_file, paths_of};
 use crate::output::say;
+use rsl_reply::Dictionary;
 use std::alloc::Global;
 use std::fs::{File, Files};
 use std::io::Write;
@@ -14,6 +15,7 @@ use std::time::Clock;
 pub(crate) fn rebase<R, W: Write>(
     rt: &R,
     alloc: Global,
+    names: &Dictionary,
     name: &str,
     writer: &mut W,
 ) -> Result<(), Fault>
@@ -23,7 +25,7 @@ where
     let now = rt.since_1970()?.as_secs();
     let paths = paths_of(rt, alloc, name)?;
     let done = {
-        let accounts = account_file(rt, alloc, paths.accounts.as_str())?;
+        let accounts = account_file(rt, alloc, names, paths.accounts.as_str())?;
         rld_start::rebase(rt, alloc, &accounts.config, paths.state.as_str(), now)?
     };
     let text = done.line(alloc)?;

@@ -1,11 +1,11 @@
-use crate::command::Misuse;
 use crate::fault::Fault;
 use crate::files::{AccountFile, accounts_for, server_file};
 use crate::output::say;
-use crate::topic::Topic;
 use rld_attributes::accept_listed;
 use rld_config::Paths;
 use rld_values::read_word;
+use rld_words::{Misuse, Topic};
+use rsl_reply::Dictionary;
 use std::alloc::Global;
 use std::fs::Files;
 use std::io::Write;
@@ -18,6 +18,7 @@ use std::io::Write;
 pub(crate) fn reply<F: Files, W: Write>(
     files: &F,
     alloc: Global,
+    names: &Dictionary,
     word: &str,
     name: &str,
     writer: &mut W,
@@ -25,16 +26,21 @@ pub(crate) fn reply<F: Files, W: Write>(
     let Some(account) = read_word(alloc, word.as_bytes())? else {
         return Err(Fault::Usage(Misuse::Unreadable(Topic::Reply)));
     };
-    let accounts = accounts_of(files, alloc, name)?;
-    match accept_listed(alloc, &accounts.config, account.as_slice())? {
+    let accounts = accounts_of(files, alloc, names, name)?;
+    match accept_listed(alloc, names, &accounts.config, account.as_slice())? {
         Some(lines) => say(writer, lines.as_slice()),
         None => Err(Fault::Refused(String::from_str(alloc, "unknown account")?)),
     }
 }
 
 /// The account file that the server's file of this name names.
-fn accounts_of<F: Files>(files: &F, alloc: Global, name: &str) -> Result<AccountFile, Fault> {
+fn accounts_of<F: Files>(
+    files: &F,
+    alloc: Global,
+    names: &Dictionary,
+    name: &str,
+) -> Result<AccountFile, Fault> {
     let server = server_file(files, alloc, name)?;
     let Paths { accounts, .. } = Paths::of(alloc, name, &server)?;
-    accounts_for(files, alloc, name, &server, accounts.as_str())
+    accounts_for(files, alloc, names, name, &server, accounts.as_str())
 }

@@ -1,10 +1,8 @@
 //! The sessions of a running server: of one account, or of all.
 
-use crate::ask::{Asked, ask, check_line, control_of, waiting};
-use crate::command::Misuse;
+use crate::ask::{Asked, ask, check_line, control_of, patience_in};
 use crate::fault::Fault;
-use crate::flags::{Flags, NOT_GIVEN};
-use crate::topic::Topic;
+use rld_words::{Flag, Flags, Given, Misuse, NOT_GIVEN, Topic};
 use std::alloc::Global;
 use std::fs::Files;
 use std::io::{IsTerminal, Write};
@@ -41,52 +39,59 @@ impl Page<'_> {
     }
 }
 
-/// Writes the sessions that the words of `sessions` ask for: of the account that they name, else of
-/// all that their flags leave. A name that begins as a flag does is written with an escape.
+/// Writes the sessions that are asked for: of the account that the words name, else of all that the flags leave. A
+/// name that begins as a flag does is written with an escape.
 ///
-/// The faults are those of `ask`. `--timeout` and its seconds, which may come first, are for each answer
-/// of the server.
+/// The faults are those of `ask`. `--timeout` and its seconds are for each answer of the server.
 pub(crate) fn sessions<R: Files + Net + Clock, W: Write, S: Write + IsTerminal>(
     rt: &R,
     alloc: Global,
-    words: &[String],
+    given: &Given<'_>,
     writer: &mut W,
     stderr: &mut S,
 ) -> Result<(), Fault> {
-    let [_, asked @ .., name] = words else {
-        return Err(Fault::Usage(Misuse::Words(Topic::Sessions)));
-    };
-    if name.as_str().starts_with("--") {
-        return Err(Fault::Usage(Misuse::Words(Topic::Sessions)));
-    }
-    let (patience, wanted) = waiting(Topic::Sessions, asked)?;
-    match Flags::of_words(wanted) {
-        Some(flags) => {
-            check_line(
-                alloc,
-                flags.line(alloc, NOT_GIVEN)?.as_str(),
-                Topic::Sessions,
-            )?;
-            let control = control_of(rt, alloc, name.as_str())?;
-            let server = Asked {
-                topic: Topic::Sessions,
-                path: control.as_str(),
-                patience,
-            };
-            list(rt, alloc, &server, &flags, writer, stderr)?;
-            Ok(())
+    let topic = Topic::Sessions;
+    let (name, words) = given.file(topic)?;
+    match words {
+        [] => sessions_of_all(rt, alloc, given, name, writer, stderr),
+        [account, ..] if narrows(given) || account.starts_with("--") => {
+            Err(Fault::Usage(Misuse::Unreadable(topic)))
         }
-        None if ends_in_flag(wanted) => Err(Fault::Usage(Misuse::Unreadable(Topic::Sessions))),
-        None => ask(rt, alloc, Topic::Sessions, words, writer, stderr),
+        _ => ask(rt, alloc, topic, given, writer, stderr),
     }
 }
 
-/// Whether the last of some words begins as a flag does.
-fn ends_in_flag(words: &[String]) -> bool {
-    match words.last() {
-        Some(word) => word.as_str().starts_with("--"),
-        None => false,
-    }
+/// Writes the sessions that the flags leave of all accounts of the server of this file.
+fn sessions_of_all<R: Files + Net + Clock, W: Write, S: Write + IsTerminal>(
+    rt: &R,
+    alloc: Global,
+    given: &Given<'_>,
+    name: &str,
+    writer: &mut W,
+    stderr: &mut S,
+) -> Result<(), Fault> {
+    let topic = Topic::Sessions;
+    let Some(flags) = Flags::of_given(given) else {
+        return Err(Fault::Usage(Misuse::Unreadable(topic)));
+    };
+    let patience = patience_in(topic, given)?;
+    check_line(alloc, flags.line(alloc, NOT_GIVEN)?.as_str(), topic)?;
+    let control = control_of(rt, alloc, name)?;
+    let server = Asked {
+        topic,
+        path: control.as_str(),
+        patience,
+    };
+    list(rt, alloc, &server, &flags, writer, stderr)?;
+    Ok(())
+}
+
+/// Whether flags are given that narrow a list of all sessions.
+fn narrows(given: &Given<'_>) -> bool {
+    given.has(Flag::Nas)
+        || given.has(Flag::Client)
+        || given.has(Flag::State)
+        || given.has(Flag::Older)
 }
 
 /// Writes the links that flags leave of all accounts, a page after the other, and gives how many

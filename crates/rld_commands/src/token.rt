@@ -1,5 +1,6 @@
 //! The file with the token of asks.
 
+use crate::cause::cause_of;
 use crate::fault::Fault;
 use crate::files::{bad_file, file_text};
 use crate::wrong::Wrong;
@@ -20,15 +21,15 @@ pub fn token_in<F: Files>(files: &F, alloc: Global, path: &str) -> Result<Token,
     let text = file_text(files, alloc, path)?;
     match fs::metadata(files, path) {
         Ok(found) if found.permissions().mode() & OTHERS == 0 => {}
-        Ok(_) => return bad_file(alloc, path, None, Wrong::Shared),
-        Err(_) => return bad_file(alloc, path, None, Wrong::Unreadable),
+        Ok(_) => return bad_file(alloc, path, Wrong::Shared),
+        Err(error) => return bad_file(alloc, path, Wrong::Unreadable(cause_of(error.kind()))),
     }
     let line = text.as_slice();
     let token = line.strip_suffix(b"\n").unwrap_or(line);
     if is_token(token) {
         Ok(Token::new(alloc, token)?)
     } else {
-        bad_file(alloc, path, None, Wrong::NoToken)
+        bad_file(alloc, path, Wrong::NoToken)
     }
 }
 

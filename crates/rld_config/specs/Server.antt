@@ -8,7 +8,7 @@ use Rattle.std.specs.declared.net.ip_addr.IpAddr.TheVariants.{V4}
 use Rattle.std.specs.declared.net.ipv4_addr.Ipv4Addr.{Ipv4Addr}
 use Rattle.toml.specs.Data.{Data, table}
 use Rattle.rld_config.specs.declared.archive.Archive.{Archive}
-use Rattle.rld_config.specs.declared.archive.Archive.TheVariants.{Days}
+use Rattle.rld_config.specs.declared.archive.Archive.TheVariants.{Days, Keep, Nothing}
 use Rattle.rld_config.specs.declared.ask.AskSettings.{AskSettings}
 use Rattle.rld_config.specs.declared.control.ControlSocket.{ControlSocket}
 use Rattle.rld_config.specs.declared.fault.ServerFault.{ServerFault}
@@ -133,10 +133,18 @@ unfoldable pub archive_in : Data → Result Archive ServerFault
 archive_in file =
     or_default part.Head key.Archive archive_value (Days 7) (member_in file key.Archive)
 
--- how many megabytes the logs of the archive may have, if the file says it
-unfoldable pub megabytes_in : Data → Result (Option ℕ) ServerFault
-megabytes_in file =
-    optional part.Head key.ArchiveMegabytes (number_of key.ArchiveMegabytes) (member_in file key.ArchiveMegabytes)
+-- how many megabytes the logs of the archive may have where the file does not say it: any number where all
+-- files are kept
+abbrev pub megabytes_by_default : Archive → Option ℕ
+megabytes_by_default Keep = None
+megabytes_by_default Nothing = Some 2000
+megabytes_by_default (Days days) = Some 2000
+
+-- how many megabytes the logs of an archive that is kept so may have
+unfoldable pub megabytes_in : Archive → Data → Result (Option ℕ) ServerFault
+megabytes_in archive file =
+    or_default part.Head key.ArchiveMegabytes (λ value. option_map Some (number_of key.ArchiveMegabytes value))
+    (megabytes_by_default archive) (member_in file key.ArchiveMegabytes)
 
 unfoldable pub head_in : Data → Result Head ServerFault
 head_in file =
@@ -146,7 +154,7 @@ head_in file =
     and_then (new_history_in file) (λ new_history.
     and_then (sync_in file) (λ sync.
     and_then (archive_in file) (λ archive.
-    and_then (megabytes_in file) (λ megabytes.
+    and_then (megabytes_in archive file) (λ megabytes.
     Ok (record {
       accounts = accounts;
       state = state;

@@ -72,8 +72,9 @@ pub struct ServerFile {
     pub sync: SyncPolicy,
     /// How long files that no start needs any more are kept.
     pub archive: Archive,
-    /// How many megabytes, of 1,000,000 octets, the logs of the archive may have: 1 to 65,535. Where it is
-    /// absent no log goes for its octets.
+    /// How many megabytes, of 1,000,000 octets, the logs of the archive may have: 1 to 65,535, by default
+    /// 2,000. It is absent only where all files are kept and the file does not say it: then no log goes for
+    /// its octets.
     pub archive_megabytes: Option<u16>,
     /// Where packets come to: 1 to 16, no two on one port.
     pub listens: Vec<Listen>,
@@ -156,13 +157,18 @@ fn head(alloc: Global, file: &Value) -> Result<Head, ServerFault>
         head_in (view file.now) ≡ Err fault) }
 {
     check_names(alloc, Part::Head, file)?;
+    let accounts = path(alloc, Part::Head, file, Key::Accounts)?;
+    let state = path(alloc, Part::Head, file, Key::State)?;
+    let new_history = new_history(file)?;
+    let sync = sync(file)?;
+    let archive = archive(file)?;
     Ok(Head {
-        accounts: path(alloc, Part::Head, file, Key::Accounts)?,
-        state: path(alloc, Part::Head, file, Key::State)?,
-        new_history: new_history(file)?,
-        sync: sync(file)?,
-        archive: archive(file)?,
-        archive_megabytes: archive_megabytes(file)?,
+        accounts,
+        state,
+        new_history,
+        sync,
+        archive,
+        archive_megabytes: archive_megabytes(file, archive)?,
     })
 }
 

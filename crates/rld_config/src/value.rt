@@ -41,6 +41,7 @@ ghost use Rattle.rld_config.specs.Server.{
   client_in,
   group_in,
   ip_address_in,
+  megabytes_by_default,
   megabytes_in,
   new_history_in,
   prefix_in,
@@ -69,6 +70,9 @@ pub(crate) const ANY_ADDRESS: [u8; 4] = [0, 0, 0, 0];
 
 /// How long an archive is kept by default, in days.
 const ARCHIVE_DAYS: u16 = 7;
+
+/// How many megabytes of logs the archive may have by default.
+const ARCHIVE_MEGABYTES: u16 = 2_000;
 
 /// The value under a key.
 pub(crate) fn member(table: &Value, key: Key) -> Option<&Value>
@@ -358,17 +362,28 @@ pub(crate) fn archive(file: &Value) -> Result<Archive, ServerFault>
     }
 }
 
-/// How many megabytes of logs the archive may have: as many as there are if the file does not say it.
+/// How many megabytes of logs the archive may have where the file does not say it: 2,000, or as many as
+/// there are where all files are kept.
+fn megabytes_by_default(archive: Archive) -> Option<u16>
+    ensures { result ≡ megabytes_by_default archive }
+{
+    match archive {
+        Archive::Keep => None,
+        Archive::Nothing | Archive::Days(_) => Some(ARCHIVE_MEGABYTES),
+    }
+}
+
+/// How many megabytes of logs an archive that is kept so may have.
 #[tactic(auto, unfolding(crate::specs::Server::megabytes_in))]
-pub(crate) fn archive_megabytes(file: &Value) -> Result<Option<u16>, ServerFault>
-    ensures { result ≡ megabytes_in (view file.now) }
+pub(crate) fn archive_megabytes(file: &Value, archive: Archive) -> Result<Option<u16>, ServerFault>
+    ensures { result ≡ megabytes_in archive (view file.now) }
 {
     match member(file, Key::ArchiveMegabytes) {
         Some(value) => match number_of(value, Key::ArchiveMegabytes) {
             Some(number) => Ok(Some(number)),
             None => Err(ServerFault::BadValue(Part::Head, Key::ArchiveMegabytes)),
         },
-        None => Ok(None),
+        None => Ok(megabytes_by_default(archive)),
     }
 }
 

@@ -1,3 +1,4 @@
 mod Ends
 mod Holding
 mod ReadBack
+mod SignatureLaws

@@ -4,7 +4,7 @@ use Rattle.std.specs.Fmt.{decimal}
 use Rattle.std.specs.Option.{option_and_then}
 use Rattle.rsl_accounts.specs.Configuration.{Configuration, client_number}
 use Rattle.rsl_accounts.specs.declared.client.Client.{Client}
-use Rattle.rld_disconnect.specs.Cause.{cause_name}
+use Rattle.rld_control.specs.Cause.{cause_name}
 use Rattle.rld_control.specs.declared.disconnected.DisconnectFault.{DisconnectFault}
 use Rattle.rld_control.specs.declared.disconnected.DisconnectFault.TheVariants.{NoPort, NotHeld, Busy, NoSocket}
 use Rattle.rld_control.specs.declared.disconnected.Disconnected.{Disconnected}

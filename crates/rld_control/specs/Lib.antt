@@ -1,3 +1,5 @@
+pub mod Answer
+pub mod Cause
 pub mod Command
 pub mod Disconnecting
 pub mod Laws
@@ -5,6 +7,7 @@ pub mod Listing
 pub mod Named
 pub mod Offs
 pub mod Reply
+pub mod RequestOctets
 pub mod Requests
 pub mod Stops
 pub mod Wanted

@@ -6,8 +6,8 @@ use Rattle.rsl_wire.specs.Attributes.{Attribute, attribute_of}
 use Rattle.rsl_event.specs.Request.{secret_of}
 use Rattle.rsl_event.specs.declared.nas.NasName.{NasName}
 use Rattle.rsl_event.specs.declared.nas.NasName.TheVariants.{Identifier, Address, Unnamed}
-use Rattle.rld_disconnect.specs.Request.{address_kind, sealed_octets}
-use Rattle.rld_disconnect.specs.declared.codes.TheConstants.{USER_NAME, NAS_IDENTIFIER, ACCT_SESSION_ID, EVENT_TIMESTAMP, MESSAGE_AUTHENTICATOR}
+use Rattle.rld_control.specs.RequestOctets.{address_kind, sealed_octets}
+use Rattle.rld_control.specs.declared.codes.TheConstants.{USER_NAME, NAS_IDENTIFIER, ACCT_SESSION_ID, EVENT_TIMESTAMP, MESSAGE_AUTHENTICATOR}
 use Rattle.rld_control.specs.declared.named.NamedSession.{NamedSession}
 
 -- the name of an access server; an address of 16 octets is a NAS-IPv6-Address

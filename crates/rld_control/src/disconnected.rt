@@ -11,8 +11,8 @@ ghost use Rattle.rld_control.specs.Disconnecting.{
   sent_to,
 };
 
+use crate::cause::cause_name;
 use crate::reply::Reply;
-use rld_disconnect::cause_name;
 use rld_values::{push_decimal, push_text};
 use rsl_accounts::Config;
 use std::alloc::{AllocError, Global};

@@ -2,12 +2,14 @@
 
 ghost use Rattle.std.specs.Prelude.{◌≡◌, ◌↔◌, None, IfOk, IsErrOf};
 ghost use Rattle.rsl_accounts.specs.Configuration.{client_number};
-ghost use Rattle.rld_disconnect.specs.Request.{server_attributes};
+ghost use Rattle.rld_control.specs.RequestOctets.{server_attributes};
 ghost use Rattle.rld_control.specs.Requests.{IsRequestFor, named_octets, nas_attributes};
 
+use crate::disconnect::DisconnectRequest;
 use crate::fault::FreeFault;
 use crate::named::NamedSession;
-use rld_disconnect::{Request, RequestFault, ServerName};
+use crate::request_fault::RequestFault;
+use crate::server_name::ServerName;
 use rsl_accounts::Config;
 use rsl_event::NasName;
 use std::alloc::Global;
@@ -49,7 +51,7 @@ fn named_octets(
         octets.items ≡ named_octets named.now identifier moment secret.now) }
     ensures client { IsErrOf result FreeFault.UnknownClient → ⊥ }
 {
-    let request = Request {
+    let request = DisconnectRequest {
         identifier,
         user_name: named.account.as_slice(),
         server: server_of(&named.nas),

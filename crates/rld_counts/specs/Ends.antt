@@ -34,6 +34,7 @@ auth_number auth.UnknownAccount = 17
 auth_number auth.WrongPassword = 18
 auth_number auth.DisabledAccount = 19
 auth_number auth.NoPassword = 20
+auth_number auth.UncheckedCredential = 21
 
 abbrev pub acct_number : AcctEnd → ℕ
 acct_number acct.Short = 0
@@ -73,8 +74,8 @@ ask_number ask.DisabledAccount = 9
 -- the ends of the accounting port follow those of the authentication port, and those of asks come last
 abbrev pub number_of : End → ℕ
 number_of (Auth end) = auth_number end
-number_of (Acct end) = 21 + acct_number end
-number_of (Ask end) = 42 + ask_number end
+number_of (Acct end) = 22 + acct_number end
+number_of (Ask end) = 43 + ask_number end
 
 -- all ends, by their numbers
 unfoldable pub all_ends : List End
@@ -83,8 +84,8 @@ all_ends =
     ∷ Auth auth.BadSignature ∷ Auth auth.Unsigned ∷ Auth auth.UnsignedProxy ∷ Auth auth.ProxyTooLong ∷ Auth auth.Refused
     ∷ Auth auth.Unrecorded ∷ Auth auth.Unsent ∷ Auth auth.Accept ∷ Auth auth.LimitReject ∷ Auth auth.Malformed
     ∷ Auth auth.NotOneName ∷ Auth auth.NotOnePassword ∷ Auth auth.SeveralChallenges ∷ Auth auth.UnknownAccount
-    ∷ Auth auth.WrongPassword ∷ Auth auth.DisabledAccount ∷ Auth auth.NoPassword ∷ Acct acct.Short
-    ∷ Acct acct.BadLength ∷ Acct acct.UnknownClient
+    ∷ Auth auth.WrongPassword ∷ Auth auth.DisabledAccount ∷ Auth auth.NoPassword ∷ Auth auth.UncheckedCredential
+    ∷ Acct acct.Short ∷ Acct acct.BadLength ∷ Acct acct.UnknownClient
     ∷ Acct acct.WrongCode ∷ Acct acct.BadAuthenticator ∷ Acct acct.Malformed ∷ Acct acct.ProxyTooLong
     ∷ Acct acct.NoStatus ∷ Acct acct.NoSession ∷ Acct acct.Refused ∷ Acct acct.Unrecorded ∷ Acct acct.Unsent
     ∷ Acct acct.Start ∷ Acct acct.Stop ∷ Acct acct.InterimUpdate ∷ Acct acct.AccountingOn
@@ -116,6 +117,7 @@ auth_name auth.UnknownAccount = codes "reject_unknown_account"
 auth_name auth.WrongPassword = codes "reject_wrong_password"
 auth_name auth.DisabledAccount = codes "reject_disabled_account"
 auth_name auth.NoPassword = codes "reject_no_password"
+auth_name auth.UncheckedCredential = codes "reject_unchecked_credential"
 
 abbrev pub acct_name : AcctEnd → List ℕ
 acct_name acct.Short = codes "drop_short"
@@ -175,6 +177,7 @@ kind_of (Auth auth.UnknownAccount) = kinds.Rejected
 kind_of (Auth auth.WrongPassword) = kinds.Rejected
 kind_of (Auth auth.DisabledAccount) = kinds.Rejected
 kind_of (Auth auth.NoPassword) = kinds.Rejected
+kind_of (Auth auth.UncheckedCredential) = kinds.Rejected
 kind_of (Auth auth.Refused) = kinds.Failed
 kind_of (Auth auth.Unrecorded) = kinds.Failed
 kind_of (Auth auth.Unsent) = kinds.Failed

@@ -46,13 +46,15 @@ pub enum AuthEnd {
     DisabledAccount,
     /// An Access-Reject was sent: the account has no password.
     NoPassword,
+    /// An Access-Reject was sent: its client is trusted, and it has a credential that the server does not check.
+    UncheckedCredential,
 }
 
 impl AuthEnd {
     /// Its number, in the order above.
     pub(crate) fn number(self) -> usize
         ensures number { result ≡ auth_number self }
-        ensures below { result < 21 }
+        ensures below { result < 22 }
     {
         match self {
             AuthEnd::Short => 0,
@@ -76,6 +78,7 @@ impl AuthEnd {
             AuthEnd::WrongPassword => 18,
             AuthEnd::DisabledAccount => 19,
             AuthEnd::NoPassword => 20,
+            AuthEnd::UncheckedCredential => 21,
         }
     }
 
@@ -105,6 +108,7 @@ impl AuthEnd {
             AuthEnd::WrongPassword => "reject_wrong_password",
             AuthEnd::DisabledAccount => "reject_disabled_account",
             AuthEnd::NoPassword => "reject_no_password",
+            AuthEnd::UncheckedCredential => "reject_unchecked_credential",
         }
     }
 }

@@ -21,7 +21,7 @@ impl Model for Counts {
 
     ghost view = { λ counts. counts.counters };
 
-    ghost invariant = { λ counts. length counts.counters ≡ 52 };
+    ghost invariant = { λ counts. length counts.counters ≡ 53 };
 
     ghost inverse = { λ counters. record { counters = counters } };
 }

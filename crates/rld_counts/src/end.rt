@@ -8,13 +8,13 @@ use crate::auth_end::AuthEnd;
 use crate::kind::Kind;
 
 /// How many ends there are, of both ports and of asks.
-pub const ENDS: usize = 52;
+pub const ENDS: usize = 53;
 
 /// How many of them are of the authentication port: the first ones.
-const AUTH_ENDS: usize = 21;
+const AUTH_ENDS: usize = 22;
 
 /// How many are of both ports: those of asks follow.
-const PORT_ENDS: usize = 42;
+const PORT_ENDS: usize = 43;
 
 /// How a datagram ended, with the port that it came to; or how an ask did, which counts as one.
 #[derive(Clone, Copy)]
@@ -32,7 +32,7 @@ impl End {
     /// asks come last.
     pub(crate) fn number(self) -> usize
         ensures number { result ≡ number_of self }
-        ensures below { result < 52 }
+        ensures below { result < 53 }
     {
         match self {
             End::Auth(end) => end.number(),
@@ -69,6 +69,7 @@ impl End {
             End::Auth(AuthEnd::WrongPassword),
             End::Auth(AuthEnd::DisabledAccount),
             End::Auth(AuthEnd::NoPassword),
+            End::Auth(AuthEnd::UncheckedCredential),
             End::Acct(AcctEnd::Short),
             End::Acct(AcctEnd::BadLength),
             End::Acct(AcctEnd::UnknownClient),
@@ -105,21 +106,21 @@ impl End {
 
     /// The ends of the authentication port among all ends.
     pub fn of_auth(all: &[End; ENDS]) -> &[End]
-        ensures { result.now ≡ take 21 all.now }
+        ensures { result.now ≡ take 22 all.now }
     {
         &all[..AUTH_ENDS]
     }
 
     /// The ends of the accounting port among all ends.
     pub fn of_acct(all: &[End; ENDS]) -> &[End]
-        ensures { result.now ≡ take 21 (drop 21 all.now) }
+        ensures { result.now ≡ take 21 (drop 22 all.now) }
     {
         &all[AUTH_ENDS..PORT_ENDS]
     }
 
     /// The ends of asks among all ends.
     pub fn of_ask(all: &[End; ENDS]) -> &[End]
-        ensures { result.now ≡ drop 42 all.now }
+        ensures { result.now ≡ drop 43 all.now }
     {
         &all[PORT_ENDS..]
     }
@@ -139,7 +140,8 @@ impl End {
                 | AuthEnd::UnknownAccount
                 | AuthEnd::WrongPassword
                 | AuthEnd::DisabledAccount
-                | AuthEnd::NoPassword,
+                | AuthEnd::NoPassword
+                | AuthEnd::UncheckedCredential,
             )
             | End::Ask(AskEnd::UnknownAccount | AskEnd::DisabledAccount) => Kind::Rejected,
             End::Acct(

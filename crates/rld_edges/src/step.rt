@@ -1,7 +1,7 @@
 ghost use Rattle.std.specs.Prelude.{◌≡◌};
 ghost use Rattle.rld_edges.specs.Step.{step_of};
 
-use rld_disconnect::{PAUSE_SECS, TRIES};
+use rld_control::{PAUSE_SECS, TRIES};
 
 /// What is to be done about a request to an access server that has no answer.
 #[derive(Clone, Copy, Debug)]

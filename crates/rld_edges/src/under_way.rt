@@ -5,8 +5,7 @@ ghost use Rattle.rld_edges.specs.Answered.{answer_from};
 use crate::order::{MOST_ORDERS, Order};
 use crate::step::Step;
 use circular_buffer::HeapCircularBuffer;
-use rld_control::{FreeFault, disconnect_request};
-use rld_disconnect::{Answer, read_answer};
+use rld_control::{DisconnectAnswer, FreeFault, disconnect_request, read_answer};
 use std::alloc::{AllocError, Global};
 use std::io::ErrorKind;
 use std::net::{Ipv4Addr, SocketAddr, SocketAddrV4, UdpSocket};
@@ -51,7 +50,7 @@ impl Sent {
     }
 
     /// What a datagram from this peer answers to it, if anything.
-    fn answer_in(&self, peer: SocketAddr, datagram: &[u8]) -> Option<Answer>
+    fn answer_in(&self, peer: SocketAddr, datagram: &[u8]) -> Option<DisconnectAnswer>
         ensures peer { IfSome result (λ _. peer ≡ self.now.to) }
         ensures answer { IfSome result (λ answer. answer_from (arc_value self.now.order.config)
             self.now.order.named.client self.now.octets.items datagram.now ≡ some answer) }
@@ -175,7 +174,7 @@ impl UnderWay {
         &mut self,
         clock: &C,
         socket: &UdpSocket,
-    ) -> Option<(Order, Answer)> {
+    ) -> Option<(Order, DisconnectAnswer)> {
         let mut room = [0u8; ANSWER_LEN];
         let (len, peer) = match socket.recv_from(&mut room) {
             Ok(found) => found,

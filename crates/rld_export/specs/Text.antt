@@ -8,7 +8,7 @@ use Rattle.rsl_event.specs.declared.nas.NasName.{NasName}
 use Rattle.rsl_event.specs.declared.nas.NasName.TheVariants.{Identifier, Address, Unnamed}
 use Rattle.rld_lines.specs.Lines.{account_name, client_address}
 use Rattle.rld_text.specs.Json.{member_front, string_member}
-use Rattle.rld_lists.specs.Links.{server_members}
+use Rattle.rld_text.specs.Links.{server_members}
 use Rattle.rld_values.specs.Dates.{date_or_number, http_date}
 use Rattle.rld_values.specs.Values.{dotted, escaped, hex}
 use Rattle.rld_export.specs.declared.export.Wanted.{Wanted}

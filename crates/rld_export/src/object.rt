@@ -5,8 +5,7 @@ ghost use Rattle.rld_text.specs.Json.{string_member};
 ghost use Rattle.rld_export.specs.Text.{end_members, moment_member, moment_or_null, session_object};
 
 use crate::session::{End, Held};
-use rld_lists::push_server_members;
-use rld_text::{push_member_front, push_string_member};
+use rld_text::{push_member_front, push_server_members, push_string_member};
 use rld_values::{push_decimal, push_text};
 use rsl_wire::Octets;
 use std::alloc::AllocError;

@@ -8,8 +8,9 @@ use crate::fault::FolderFault;
 use crate::folder::{Folder, files_among, make_folder, path_in, sync_names};
 use crate::name::{FileName, Generation};
 use crate::new_log::LogKey;
-use crate::older::{ArchivedLog, excess_logs, is_expired};
+use crate::older::{ArchivedLog, excess_logs, is_expired, logs_for_room};
 use std::alloc::{AllocError, Global};
+use std::fmt;
 use std::fs::{self, File};
 use std::io::ErrorKind;
 use std::rt::Files;
@@ -27,6 +28,27 @@ pub struct Synced {
 #[derive(Drop)]
 pub struct Removed {
     generation: Generation,
+}
+
+/// Which logs have left an archive for a disk without room: its oldest ones.
+#[derive(Clone, Copy, Debug)]
+pub struct RoomMade {
+    /// How many.
+    pub logs: u64,
+    /// The newest of them.
+    pub newest: Generation,
+}
+
+impl fmt::Display for RoomMade {
+    /// The line that says it, without its line feed.
+    fn fmt<W: fmt::Write>(&self, f: &mut fmt::Formatter<W>) -> fmt::Result {
+        let RoomMade { logs, newest } = self;
+        write!(
+            f,
+            "no room on the disk: oldest logs removed from the archive: {logs}, up to log-{}-{}",
+            newest.era, newest.number
+        )
+    }
 }
 
 /// The first fault of several files, if any.
@@ -314,6 +336,36 @@ impl Folder {
         }
         outcome
     }
+
+    /// Removes the oldest logs of the archive, for a disk without room (`logs_for_room`), and says which; `None`
+    /// where the archive has no log, or only empty ones. With a fault some of them may be gone: `Unread` where
+    /// the archive, or what the system knows of a log, cannot be read; then none is. `Unremoved` where one
+    /// cannot be removed.
+    pub fn make_room<R: Files<File = File> + Alloc<A = Global> + Clone + Drop>(
+        &self,
+        rt: &R,
+    ) -> Result<Option<RoomMade>, FolderFault> {
+        let logs = self.archived_logs(rt)?;
+        let archive = self.archive_path(rt.alloc())?;
+        let mut made = None;
+        for generation in logs_for_room(rt.alloc(), logs)?.as_slice() {
+            let path = path_in(rt.alloc(), archive.as_str(), FileName::Log(*generation))?;
+            remove_file(rt, path.as_str())?;
+            made = Some(with_log(made, *generation));
+        }
+        Ok(made)
+    }
+}
+
+/// What was removed for room, once another log was, which is newer than those before.
+fn with_log(made: Option<RoomMade>, newest: Generation) -> RoomMade
+    ensures newest { result.newest ≡ newest }
+{
+    let logs = match made {
+        Some(made) => made.logs.saturating_add(1),
+        None => 1,
+    };
+    RoomMade { logs, newest }
 }
 
 /// Removes a file whose last change is more than `days` days before second `now` since 1970.

@@ -38,6 +38,9 @@ pub enum FolderFault {
     /// A file could not be written.
     #[error("cannot be written")]
     Unwritten,
+    /// A file could not be made or written, for the disk has no room for it, or the user's quota is used up.
+    #[error("no room on the disk")]
+    NoRoom,
     /// A file could not be moved to the archive.
     #[error("a file cannot be moved")]
     Unmoved,
@@ -50,10 +53,12 @@ pub enum FolderFault {
 }
 
 impl FolderFault {
-    /// The fault of a failed system call: `NoMemory` if memory was refused, and else this one.
+    /// The fault of a failed system call: `NoMemory` if memory was refused, `NoRoom` if the disk has no room,
+    /// and else this one.
     pub(crate) fn of(error: &io::Error, fault: FolderFault) -> FolderFault {
         match error.kind() {
             ErrorKind::OutOfMemory => FolderFault::NoMemory,
+            ErrorKind::StorageFull | ErrorKind::QuotaExceeded => FolderFault::NoRoom,
             _ => fault,
         }
     }

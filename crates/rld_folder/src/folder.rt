@@ -222,8 +222,8 @@ impl Folder {
         octets: &[u8],
     ) -> Result<(), FolderFault> {
         let mut file = self.create(files, alloc, FileName::Era(era))?;
-        if file.write_all(octets).is_err() {
-            return Err(FolderFault::Unwritten);
+        if let Err(error) = file.write_all(octets) {
+            return Err(FolderFault::of(&error, FolderFault::Unwritten));
         }
         if file.sync_all().is_err() {
             return Err(FolderFault::Unsynced);

@@ -10,10 +10,12 @@ mod new_log;
 mod newest;
 mod older;
 
-pub use archive::{Removed, Synced};
+pub use archive::{Removed, RoomMade, Synced};
 pub use fault::FolderFault;
 pub use folder::Folder;
 pub use name::{FileName, Generation};
 pub use new_log::{LogKey, NewLog};
 pub use newest::newest_generation;
-pub use older::{ArchivedLog, excess_logs, is_expired, logless_eras, octets_in, older_logs};
+pub use older::{
+    ArchivedLog, ROOM, excess_logs, is_expired, logless_eras, logs_for_room, octets_in, older_logs,
+};

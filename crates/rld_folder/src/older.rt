@@ -1,6 +1,6 @@
 //! The logs that no start needs any more, and the tables of eras without a log.
 
-ghost use Rattle.std.specs.Prelude.{◌≡◌, ◌↔◌, ◌<◌, ◌^◌, All, IfOk, IfSome, IsTrue, sum_by};
+ghost use Rattle.std.specs.Prelude.{◌≡◌, ◌↔◌, ◌<◌, ◌^◌, ◌-◌, All, IfOk, IfSome, IsTrue, sum_by};
 ghost use Rattle.std.specs.List.{list_any};
 ghost use Rattle.rld_folder.specs.Newest.{Precedes};
 ghost use Rattle.rld_folder.specs.Older.{AreExcess, IsExpired, excess, octets_in, has_log, is_log_of, is_logless, logless_era, logless_eras, older_log, older_logs};
@@ -10,6 +10,11 @@ use std::alloc::{AllocError, Global};
 
 /// The seconds of a day.
 const DAY_SECS: u64 = 86_400;
+
+/// How many octets of logs leave the archive each time that its disk has no room.
+pub const ROOM: u64 = 4_000_000;
+
+const _: () = prove!(ROOM == 4_000_000);
 
 /// The generation of a log before the newest one.
 fn older_log(newest: Generation, file: FileName) -> Option<Generation>
@@ -162,6 +167,16 @@ fn excess(alloc: Global, logs: &[ArchivedLog], limit: u64) -> Result<Vec<Generat
         left = left.saturating_sub(log.octets);
     }
     Ok(gone)
+}
+
+/// Of the logs of an archive those that go where its disk has no room: the oldest first, until `ROOM` octets
+/// are gone, and no more of them than that takes. It fails only where memory is refused.
+pub fn logs_for_room(alloc: Global, logs: Vec<ArchivedLog>) -> Result<Vec<Generation>, AllocError>
+    ensures { octets_in logs.items < 2 ^ 64 →
+        IfOk result (λ gone. AreExcess (octets_in logs.items - ROOM) logs.items gone.items) }
+{
+    let limit = octets_in(logs.as_slice()).saturating_sub(ROOM);
+    excess_logs(alloc, logs, limit)
 }
 
 /// Whether a file that last changed at `changed` has been kept for more than `days` days at `now`.

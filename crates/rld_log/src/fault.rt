@@ -16,6 +16,10 @@ pub enum LogFault {
     /// The octets could not be written. Some of them may be at the end.
     #[error("cannot be written")]
     Unwritten,
+    /// The octets could not be written, for the disk has no room for them, or the user's quota is used up.
+    /// Some of them may be at the end.
+    #[error("no room on the disk")]
+    NoRoom,
     /// The file could not be cut.
     #[error("cannot be cut")]
     Uncut,

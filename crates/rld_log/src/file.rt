@@ -54,6 +54,14 @@ fn octets_of(file: &mut File, alloc: Global) -> io::Result<Vec<u8>> {
     Ok(octets)
 }
 
+/// The fault of a write that failed so.
+fn unwritten(kind: ErrorKind) -> LogFault {
+    match kind {
+        ErrorKind::StorageFull | ErrorKind::QuotaExceeded => LogFault::NoRoom,
+        _ => LogFault::Unwritten,
+    }
+}
+
 impl Log for FileLog {
     fn read(&mut self, alloc: Global) -> Result<Vec<u8>, LogFault> {
         if self.end == End::Lost {
@@ -77,8 +85,8 @@ impl Log for FileLog {
             End::Unknown => return Err(LogFault::Unwritten),
             End::Lost => return Err(LogFault::Unsynced),
         };
-        if self.file.write_all_at(octets, at).is_err() {
-            return Err(self.failed(LogFault::Unwritten));
+        if let Err(error) = self.file.write_all_at(octets, at) {
+            return Err(self.failed(unwritten(error.kind())));
         }
         self.end = End::At(at.saturating_add(octets.len() as u64));
         Ok(())

@@ -155,6 +155,7 @@ impl<L: Log> Log for PacedLog<'_, L> {
         }
         if let Err(fault) = self.log.append(octets) {
             self.end = End::Unsettled;
+            self.ticks.note(fault);
             return Err(fault);
         }
         Ok(())

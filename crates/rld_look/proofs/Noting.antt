@@ -19,26 +19,26 @@ use Rattle.rld_look.specs.declared.refusal.Refusal.{Refusal}
 
 -- ---- the count of a cause
 
-auth_below : (end : AuthEnd) → ltb (auth_number end) 52 ≡ true
+auth_below : (end : AuthEnd) → ltb (auth_number end) 53 ≡ true
 auth_below auth.Short = refl
 auth_below _ = refl
 
-acct_below : (end : AcctEnd) → ltb (21 + acct_number end) 52 ≡ true
+acct_below : (end : AcctEnd) → ltb (22 + acct_number end) 53 ≡ true
 acct_below acct.Short = refl
 acct_below _ = refl
 
-ask_below : (end : AskEnd) → ltb (42 + ask_number end) 52 ≡ true
+ask_below : (end : AskEnd) → ltb (43 + ask_number end) 53 ≡ true
 ask_below ask.Unauthorized = refl
 ask_below _ = refl
 
-number_below : (end : End) → number_of end < 52
+number_below : (end : End) → number_of end < 53
 number_below (Auth end) = ltb-true _ _ (auth_below end)
 number_below (Acct end) = ltb-true _ _ (acct_below end)
 number_below (Ask end) = ltb-true _ _ (ask_below end)
 
 count_is : (end : End) (ends : List End) (counts : List ℕ) → counts ≡ counts_of ends → count_in counts end ≡ kept (of_cause end ends)
 count_is end ends counts was =
-    ap (λ (l : List ℕ). get_or l (number_of end) 0) was ∙ counter_of 52 (number_of end) (map number_of ends) (number_below end)
+    ap (λ (l : List ℕ). get_or l (number_of end) 0) was ∙ counter_of 53 (number_of end) (map number_of ends) (number_below end)
 
 of_cause_more : (end one : End) (ends : List End) → of_cause end (ends ++ one ∷ []) ≡ of_cause end ends + cond (eqb (number_of one) (number_of end)) 1 0
 unfolding how_many

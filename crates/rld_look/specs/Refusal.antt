@@ -1,12 +1,13 @@
 -- Which datagrams are refused, and what an operator learns of one.
-use Rattle.std.specs.Prelude.{ℕ, Bool, true, false, List, [], Result, Ok, Err}
+use Rattle.std.specs.Prelude.{ℕ, Bool, true, false, List, [], Option, Result, Ok, Err}
+use Rattle.std.specs.Option.{option_or}
 use Rattle.rld_counts.specs.Ends.{kind_of}
 use Rattle.rld_counts.specs.declared.end.End.{End}
 use Rattle.rld_counts.specs.declared.kind.Kind.{Kind}
 use Rattle.rld_counts.specs.declared.kind.Kind.TheVariants as kinds
 use Rattle.rsl_event.specs.Request.{nas_name_of}
 use Rattle.rsl_event.specs.Station.{if_station}
-use Rattle.rsl_event.specs.declared.codes.TheConstants.{CALLING_STATION_ID, NAS_IDENTIFIER, NAS_IP_ADDRESS, USER_NAME}
+use Rattle.rsl_event.specs.declared.codes.TheConstants.{CALLING_STATION_ID, NAS_IDENTIFIER, NAS_IP_ADDRESS, NAS_IPV6_ADDRESS, USER_NAME}
 use Rattle.rsl_wire.specs.Attributes.{Attribute, attribute_list, first_of}
 use Rattle.rsl_wire.specs.Packet.{Fields, packet_of}
 use Rattle.rsl_wire.specs.declared.packet.WireFault.{WireFault}
@@ -38,6 +39,11 @@ attributes_by (Err fault) = []
 abbrev pub attributes_of : (octets : List ℕ) → List Attribute
 attributes_of octets = attributes_by (packet_of octets)
 
+-- the address of an access server: an IPv6 address is told whatever its version of the account file knows
+abbrev pub address_in : List Attribute → Option (List ℕ)
+address_in attributes =
+    option_or (first_of NAS_IP_ADDRESS attributes) (first_of NAS_IPV6_ADDRESS attributes)
+
 -- the refusal of a datagram with these attributes: its station is told whatever its account says of stations
 abbrev pub refusal_with : Refused → List Attribute → Refusal
 refusal_with refused attributes = record {
@@ -45,7 +51,7 @@ refusal_with refused attributes = record {
   source = refused.source;
   peer = refused.peer;
   client = refused.client;
-  nas = nas_name_of (first_of NAS_IDENTIFIER attributes) (first_of NAS_IP_ADDRESS attributes);
+  nas = nas_name_of (first_of NAS_IDENTIFIER attributes) (address_in attributes);
   name = first_of USER_NAME attributes;
   station = if_station (first_of CALLING_STATION_ID attributes);
   end = refused.end;

@@ -1,5 +1,6 @@
 //! Showing a running server.
 
+use crate::health::Health;
 use crate::look::{AccountsLook, Look};
 use rsl_wire::NoMemory;
 use std::io;
@@ -13,6 +14,7 @@ use std::time::Clock;
 /// of one that this server gave. By default it says nothing of them.
 pub trait Shown {
     ghost use Rattle.std.specs.Prelude.{ℕ, IfOk};
+    ghost use Rattle.rld_look.specs.declared.health.Health.{Health as OneHealth};
     ghost use Rattle.rld_look.specs.declared.look.AccountsLook.{AccountsLook as OneAccountsLook};
     ghost use Rattle.rld_look.specs.declared.look.Look.{Look as OneLook};
 
@@ -21,6 +23,14 @@ pub trait Shown {
 
     /// Whether its accounts have held this.
     ghost holds: { OneAccountsLook → Type 0 } = { λ _. Unit {0} };
+
+    /// Whether it has been so.
+    ghost fares: { OneHealth → Type 0 } = { λ _. Unit {0} };
+
+    /// How it is, as far as its worker that makes ticks has seen. It reads two words, and waits for no lock:
+    /// what its accounts hold counts for nothing here.
+    fn health(&self) -> Health
+        ensures fared { fares result };
 
     /// What it now shows of itself, for one who calls this moment `now`. It fails only if memory is
     /// refused.

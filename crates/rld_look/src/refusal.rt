@@ -1,12 +1,12 @@
 ghost use Rattle.std.specs.Prelude.{◌≡◌, [], IfOk};
 ghost use Rattle.rsl_event.specs.Occurrences.{value_of};
-ghost use Rattle.rsl_event.specs.Request.{nas_name_of};
 ghost use Rattle.rsl_event.specs.Station.{if_station};
-ghost use Rattle.rld_look.specs.Refusal.{is_refusal, refusal_of, refusal_with};
+ghost use Rattle.rld_look.specs.Refusal.{address_in, is_refusal, refusal_of, refusal_with};
 
 use rld_counts::{End, Kind};
 use rsl_event::codes::{
-    CALLING_STATION_ID, MAX_STATION_LEN, NAS_IDENTIFIER, NAS_IP_ADDRESS, USER_NAME,
+    CALLING_STATION_ID, MAX_STATION_LEN, NAS_IDENTIFIER, NAS_IP_ADDRESS, NAS_IPV6_ADDRESS,
+    USER_NAME,
 };
 use rsl_event::{NasName, Source};
 use rsl_wire::{Attrs, NoMemory, Octets, read};
@@ -41,8 +41,9 @@ pub struct Refusal {
     pub peer: IpAddr,
     /// The number of the client that the peer stands for, if there is one.
     pub client: Option<u32>,
-    /// The name of the access server. It is also unnamed if the datagram's attributes cannot be
-    /// read.
+    /// The name of the access server: its NAS-Identifier, else its NAS-IP-Address, else its NAS-IPv6-Address, which
+    /// is told whether or not its version of the account file knows it. It is also unnamed if the datagram's
+    /// attributes cannot be read.
     pub nas: NasName,
     /// The first User-Name (RFC 2865 section 5.1), if the datagram's attributes can be read and
     /// there is one.
@@ -123,32 +124,22 @@ fn named(alloc: Global, refused: &Refused<'_>, attributes: &Attrs<'_>) -> Result
         source: refused.source,
         peer: refused.peer,
         client: refused.client,
-        nas: nas_name(
-            alloc,
-            attributes.first(NAS_IDENTIFIER),
-            attributes.first(NAS_IP_ADDRESS),
-        )?,
+        nas: NasName::of(alloc, attributes.first(NAS_IDENTIFIER), address(attributes))?,
         name: copied(alloc, attributes.first(USER_NAME))?,
         station: station(alloc, attributes.first(CALLING_STATION_ID))?,
         end: refused.end,
     })
 }
 
-/// The name of an access server: its NAS-Identifier (RFC 2865 section 5.32), else its
-/// NAS-IP-Address (RFC 2865 section 5.4), else none.
-fn nas_name(
-    alloc: Global,
-    identifier: Option<&[u8]>,
-    address: Option<&[u8]>,
-) -> Result<NasName, NoMemory>
-    ensures { IfOk result (λ name.
-        name ≡ nas_name_of (value_of identifier.entry) (value_of address.entry)) }
+/// The address of an access server: its NAS-IP-Address (RFC 2865 section 5.4), else its NAS-IPv6-Address (RFC 3162
+/// section 2.1), else none.
+fn address<'a>(attributes: &Attrs<'a>) -> Option<&'a [u8]>
+    ensures { value_of result ≡ address_in attributes.now }
 {
-    Ok(match (identifier, address) {
-        (Some(identifier), _) => NasName::Identifier(Octets::from_slice(alloc, identifier)?),
-        (None, Some(address)) => NasName::Address(Octets::from_slice(alloc, address)?),
-        (None, None) => NasName::Unnamed,
-    })
+    match attributes.first(NAS_IP_ADDRESS) {
+        Some(address) => Some(address),
+        None => attributes.first(NAS_IPV6_ADDRESS),
+    }
 }
 
 /// The device that a Calling-Station-Id names: its octets, if it has 1 to 64.

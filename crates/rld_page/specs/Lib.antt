@@ -1,3 +1,6 @@
+pub mod Chart
+pub mod Figures
+pub mod Html
 pub mod Json
 pub mod Page
 pub mod Summary

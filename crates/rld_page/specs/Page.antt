@@ -4,9 +4,9 @@ use Rattle.rld_look.specs.declared.look.Look.{Look}
 use Rattle.rld_look.specs.declared.look.Recording.{Recording}
 use Rattle.rld_look.specs.declared.look.Recording.TheVariants.{Recorded, Failing}
 use Rattle.rld_values.specs.Dates.{AreDates}
-use Rattle.rld_chart.specs.Chart.{charts_of}
-use Rattle.rld_chart.specs.Figures.{date_text, grouped}
-use Rattle.rld_chart.specs.Html.{middle_dot}
+use Rattle.rld_page.specs.Chart.{charts_of}
+use Rattle.rld_page.specs.Figures.{date_text, grouped}
+use Rattle.rld_page.specs.Html.{middle_dot}
 use Rattle.rld_page.specs.Summary.{numbers_of, state_of}
 use Rattle.rld_page.specs.Tables.{accounts_of, causes_of, refused_of, servers_of, sockets_of}
 use Rattle.rld_page.specs.declared.style.TheConstants.{STYLE}

@@ -7,8 +7,8 @@ use Rattle.rld_look.specs.declared.look.Look.{Look}
 use Rattle.rld_look.specs.declared.look.Minute.{Minute}
 use Rattle.rld_look.specs.declared.look.Recording.{Recording}
 use Rattle.rld_look.specs.declared.look.Recording.TheVariants.{Recorded, Failing}
-use Rattle.rld_chart.specs.Figures.{date_text, grouped, share_of, tenths_of, tenths_text, width_text}
-use Rattle.rld_chart.specs.Html.{middle_dot}
+use Rattle.rld_page.specs.Figures.{date_text, grouped, share_of, tenths_of, tenths_text, width_text}
+use Rattle.rld_page.specs.Html.{middle_dot}
 
 -- ---- the state
 

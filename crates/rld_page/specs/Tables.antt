@@ -3,7 +3,8 @@
 use Rattle.std.specs.Prelude.{ℕ, ◌-◌, ◌==◌, nat_le, nat_lt, List, [], ◌∷◌, ◌++◌, codes, drop, length, take, Option, None, Some, if◌then◌else◌}
 use Rattle.std.specs.Fmt.{decimal}
 use Rattle.std.specs.List.{flat_map}
-use Rattle.std.specs.Net.Text.{ip_text}
+use Rattle.std.specs.Net.Text.{ip_text, ipv6_text}
+use Rattle.std.specs.Net.Addr.{segments_of}
 use Rattle.std.specs.declared.net.ip_addr.IpAddr.{IpAddr}
 use Rattle.rld_counts.specs.Counts.{count_in, total_of}
 use Rattle.rld_counts.specs.Ends.{all_ends, is_answer, kind_of}
@@ -19,8 +20,8 @@ use Rattle.rsl_event.specs.declared.event.Source.{Source}
 use Rattle.rsl_event.specs.declared.nas.NasName.{NasName}
 use Rattle.rsl_event.specs.declared.nas.NasName.TheVariants.{Identifier, Address, Unnamed}
 use Rattle.rsl_shard.specs.declared.row.Row.{Row}
-use Rattle.rld_chart.specs.Figures.{grouped, moment_text, share_of, width_text}
-use Rattle.rld_chart.specs.Html.{html_text, soft_dash}
+use Rattle.rld_page.specs.Figures.{grouped, moment_text, share_of, width_text}
+use Rattle.rld_page.specs.Html.{html_text, soft_dash}
 use Rattle.rld_page.specs.Words.{words_of}
 
 -- how each table ends that fills its section
@@ -103,13 +104,13 @@ port_table port counts ends =
 abbrev pub asks_if_any : (counts : List ℕ) → List End → List ℕ
 asks_if_any counts ends = if total_of counts ends == 0 then [] else port_table (codes "Asks") counts ends
 
--- the first 21 ends are those of the authentication port, then 21 of the accounting port
+-- the first 22 ends are those of the authentication port, then 21 of the accounting port
 unfoldable pub causes_of : (counts : List ℕ) → List ℕ
 causes_of counts =
     codes "<section class=\"rest\"><div class=\"top\"><h2>Datagrams since the start</h2></div>\n<div class=\"wide\">"
-    ++ (port_table (codes "Authentication") counts (take 21 all_ends)
-    ++ (port_table (codes "Accounting") counts (take 21 (drop 21 all_ends))
-    ++ (asks_if_any counts (drop 42 all_ends) ++ codes "</div></section>\n")))
+    ++ (port_table (codes "Authentication") counts (take 22 all_ends)
+    ++ (port_table (codes "Accounting") counts (take 21 (drop 22 all_ends))
+    ++ (asks_if_any counts (drop 43 all_ends) ++ codes "</div></section>\n")))
 
 -- ---- the access servers that hold a session or a reservation
 
@@ -164,9 +165,13 @@ abbrev pub name_or_dash : Option (List ℕ) → List ℕ
 name_or_dash None = soft_dash
 name_or_dash (Some name) = word name
 
--- four octets as an address
+-- sixteen octets as an address of IPv6
+abbrev pub ipv6_or_word : List ℕ → List ℕ
+ipv6_or_word address = if length address == 16 then ipv6_text (segments_of address) else word address
+
+-- four octets as an address of IPv4
 abbrev pub address_text : List ℕ → List ℕ
-address_text address = if length address == 4 then dotted address else word address
+address_text address = if length address == 4 then dotted address else ipv6_or_word address
 
 -- what an access server calls itself
 abbrev pub nas_text : NasName → List ℕ

@@ -31,6 +31,7 @@ auth_words auth.UnknownAccount = codes "Rejected: unknown account"
 auth_words auth.WrongPassword = codes "Rejected: wrong password"
 auth_words auth.DisabledAccount = codes "Rejected: disabled account"
 auth_words auth.NoPassword = codes "Rejected: account without password"
+auth_words auth.UncheckedCredential = codes "Rejected: unchecked credential"
 
 abbrev pub acct_words : AcctEnd → List ℕ
 acct_words acct.Short = codes "Dropped: too short"

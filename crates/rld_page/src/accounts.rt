@@ -2,10 +2,11 @@
 
 ghost use Rattle.std.specs.Prelude.{◌≡◌, ◌++◌, OnOk};
 ghost use Rattle.std.specs.List.{flat_map};
-ghost use Rattle.rld_chart.specs.Html.{html_text};
+ghost use Rattle.rld_page.specs.Html.{html_text};
 ghost use Rattle.rld_page.specs.Tables.{account_front, account_row, accounts_front, accounts_of, more_cell, number_cell, row_cells, share_cell, table_end};
 
-use rld_chart::{Html, share, write_width};
+use crate::figures::{share, write_width};
+use crate::html::Html;
 use rld_look::{AccountLook, Look};
 use rsl_accounts::Text;
 use rsl_shard::Row;

@@ -6,7 +6,7 @@ ghost use Rattle.rld_counts.specs.Ends.{all_ends};
 ghost use Rattle.rld_page.specs.Tables.{answer_row, asks_if_any, causes_of, count_row, other_row, port_table, row_if_any};
 
 use crate::ends::words;
-use rld_chart::Html;
+use crate::html::Html;
 use rld_counts::{Counts, End};
 use std::alloc::AllocError;
 
@@ -28,7 +28,7 @@ pub(crate) fn write_causes(html: &mut Html, counts: &Counts) -> Result<(), Alloc
 /// Writes the table of the authentication port.
 fn write_auth(html: &mut Html, counts: &Counts) -> Result<(), AllocError>
     ensures { OnOk result (html.new
-        ≡ html.old ++ port_table (codes "Authentication") counts.now (take 21 all_ends)) }
+        ≡ html.old ++ port_table (codes "Authentication") counts.now (take 22 all_ends)) }
 {
     let ends = End::all();
     write_port(html, "Authentication", counts, End::of_auth(&ends))
@@ -37,7 +37,7 @@ fn write_auth(html: &mut Html, counts: &Counts) -> Result<(), AllocError>
 /// Writes the table of the accounting port.
 fn write_acct(html: &mut Html, counts: &Counts) -> Result<(), AllocError>
     ensures { OnOk result (html.new
-        ≡ html.old ++ port_table (codes "Accounting") counts.now (take 21 (drop 21 all_ends))) }
+        ≡ html.old ++ port_table (codes "Accounting") counts.now (take 21 (drop 22 all_ends))) }
 {
     let ends = End::all();
     write_port(html, "Accounting", counts, End::of_acct(&ends))
@@ -45,7 +45,7 @@ fn write_acct(html: &mut Html, counts: &Counts) -> Result<(), AllocError>
 
 /// Writes the table of asks, if any came.
 fn write_asks(html: &mut Html, counts: &Counts) -> Result<(), AllocError>
-    ensures { OnOk result (html.new ≡ html.old ++ asks_if_any counts.now (drop 42 all_ends)) }
+    ensures { OnOk result (html.new ≡ html.old ++ asks_if_any counts.now (drop 43 all_ends)) }
 {
     let ends = End::all();
     write_asks_if_any(html, counts, End::of_ask(&ends))

@@ -4,12 +4,13 @@ ghost use Rattle.rld_values.specs.Dates.{AreDates};
 
 use crate::accounts::write_accounts;
 use crate::causes::write_causes;
+use crate::chart::write_charts;
+use crate::html::Html;
 use crate::refused::write_refused;
 use crate::servers::write_servers;
 use crate::sockets::write_sockets;
 use crate::style::STYLE;
 use crate::summary::{write_numbers, write_state};
-use rld_chart::{Html, write_charts};
 use rld_look::{Look, Recording};
 use std::alloc::{AllocError, Global};
 

@@ -42,6 +42,7 @@ fn auth_words(end: AuthEnd) -> &'static str
         AuthEnd::WrongPassword => "Rejected: wrong password",
         AuthEnd::DisabledAccount => "Rejected: disabled account",
         AuthEnd::NoPassword => "Rejected: account without password",
+        AuthEnd::UncheckedCredential => "Rejected: unchecked credential",
     }
 }
 

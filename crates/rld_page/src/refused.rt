@@ -1,16 +1,17 @@
 //! The last refusals.
 
 ghost use Rattle.std.specs.Prelude.{◌≡◌, ◌++◌, List, OnOk, ℕ};
-ghost use Rattle.rld_chart.specs.Html.{soft_dash};
-ghost use Rattle.rld_page.specs.Tables.{address_text, client_text, name_or_dash, nas_text, refusal_end, refusal_front, refusal_row, refusal_rows, refused_if_any, refused_of, refused_table, table_end};
+ghost use Rattle.rld_page.specs.Html.{soft_dash};
+ghost use Rattle.rld_page.specs.Tables.{address_text, client_text, ipv6_or_word, name_or_dash, nas_text, refusal_end, refusal_front, refusal_row, refusal_rows, refused_if_any, refused_of, refused_table, table_end};
 ghost use Rattle.rld_values.specs.Dates.{AreDates};
 
 use crate::ends::words;
-use rld_chart::Html;
+use crate::html::Html;
 use rld_look::{Look, Refusal};
 use rsl_event::NasName;
 use rsl_wire::Octets;
 use std::alloc::AllocError;
+use std::net::{IpAddr, Ipv6Addr};
 
 /// Writes what was refused lately, the last first.
 pub(crate) fn write_refused(html: &mut Html, look: &Look) -> Result<(), AllocError>
@@ -147,7 +148,7 @@ fn write_nas(html: &mut Html, nas: &NasName) -> Result<(), AllocError>
     }
 }
 
-/// Writes an address of an access server.
+/// Writes an address of an access server, of IPv4 or IPv6.
 #[tactic(auto, unfolding(rld_values::specs::Values::dotted))]
 fn write_address(html: &mut Html, octets: &[u8]) -> Result<(), AllocError>
     ensures { OnOk result (html.new ≡ html.old ++ address_text octets.now) }
@@ -155,12 +156,22 @@ fn write_address(html: &mut Html, octets: &[u8]) -> Result<(), AllocError>
     if octets.len() == 4 {
         html.address([octets[0], octets[1], octets[2], octets[3]])
     } else {
-        html.word(octets)
+        write_ipv6(html, octets)
+    }
+}
+
+/// Writes 16 octets as an address of IPv6 (RFC 5952), and others as a name.
+fn write_ipv6(html: &mut Html, octets: &[u8]) -> Result<(), AllocError>
+    ensures { OnOk result (html.new ≡ html.old ++ ipv6_or_word octets.now) }
+{
+    match <[u8; 16]>::try_from(octets) {
+        Ok(address) => html.ip(IpAddr::V6(Ipv6Addr::from_octets(address))),
+        Err(_) => html.word(octets),
     }
 }
 
 /// Writes that there is nothing to say.
-#[tactic(auto, unfolding(rld_chart::specs::Html::soft_dash))]
+#[tactic(auto, unfolding(crate::specs::Html::soft_dash))]
 fn write_dash(html: &mut Html) -> Result<(), AllocError>
     ensures { OnOk result (html.new ≡ html.old ++ soft_dash) }
 {

@@ -6,7 +6,7 @@ ghost use Rattle.rld_page.specs.Tables.{left_out_words, more_servers, server_fro
 ghost use Rattle.rld_values.specs.Dates.{AreDates};
 
 use crate::accounts::{write_more, write_number};
-use rld_chart::Html;
+use crate::html::Html;
 use rld_look::{AccessServerLook, Look};
 use std::alloc::AllocError;
 

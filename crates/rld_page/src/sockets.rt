@@ -4,7 +4,7 @@ ghost use Rattle.std.specs.Prelude.{◌≡◌, ◌++◌, OnOk};
 ghost use Rattle.std.specs.List.{flat_map};
 ghost use Rattle.rld_page.specs.Tables.{socket_row, sockets_of, sockets_table, table_end};
 
-use rld_chart::Html;
+use crate::html::Html;
 use rld_look::{Look, SocketLook};
 use std::alloc::AllocError;
 

@@ -5,7 +5,8 @@ ghost use Rattle.rld_look.specs.History.{latest_of, span_of};
 ghost use Rattle.rld_page.specs.Summary.{archive_row, behind_mark, clock_mark, numbers_of, places_text, rate_text, rates_text, recording_mark, rejects_in, since_text, state_of, written_text};
 ghost use Rattle.rld_values.specs.Dates.{AreDates};
 
-use rld_chart::{Html, share, tenths, write_tenths, write_width};
+use crate::figures::{share, tenths, write_tenths, write_width};
+use crate::html::Html;
 use rld_look::{Look, Minute, Recording};
 use std::alloc::AllocError;
 

@@ -1,6 +1,7 @@
 -- What an operator is told.
 use Rattle.std.specs.Prelude.{◌≡◌, ℕ, ◌+◌, List, ◌++◌, codes, length, slice_get, Option, Some, None, Result, Ok, Err}
 use Rattle.rld_ask.specs.Reply.{lines_of}
+use Rattle.rsl_reply.specs.declared.dictionary.Dictionary.{Dictionary}
 use Rattle.rld_attributes.specs.Listed.{attributes_of}
 use Rattle.rld_ask.specs.declared.asked.Answer.{Answer as AskAnswer}
 use Rattle.rld_ask.specs.declared.outcome.Outcome.{Outcome}
@@ -13,9 +14,9 @@ use Rattle.rld_control.specs.declared.form.Form.{Form}
 use Rattle.rld_control.specs.declared.form.Form.TheVariants.{Lines, Json}
 use Rattle.rld_control.specs.declared.listing.Listing.{Listing}
 use Rattle.rld_control.specs.declared.form.Selection.{Selection}
-use Rattle.rld_lists.specs.Accounts.{accounts_text}
-use Rattle.rld_lists.specs.Links.{links_text}
-use Rattle.rld_lists.specs.Listing.{page_text}
+use Rattle.rld_text.specs.Accounts.{accounts_text}
+use Rattle.rld_text.specs.Links.{links_text}
+use Rattle.rld_text.specs.Listing.{page_text}
 use Rattle.rld_look.specs.declared.look.AccountLook.{AccountLook}
 use Rattle.rld_look.specs.declared.look.Look.{Look}
 use Rattle.rld_look.specs.declared.health.Health.{Health}
@@ -93,10 +94,10 @@ TellsChange (Ok reloaded) octets = IsDone octets
 TellsChange (Err fault) octets = IsRefused octets
 
 -- an ask is told as accepted where it is, with the lines of its reply
-abbrev pub TellsAccepted : AskAnswer → (octets : List ℕ) → Type 0
-TellsAccepted answer octets =
+abbrev pub TellsAccepted : Dictionary → AskAnswer → (octets : List ℕ) → Type 0
+TellsAccepted names answer octets =
     (answer.outcome ≡ outcomes.Accepted)
-    × (octets ≡ lines_of (attributes_of answer.reply) ++ codes "ok\n")
+    × (octets ≡ lines_of names (attributes_of answer.reply) ++ codes "ok\n")
 
 -- why an ask with this outcome has no such answer
 abbrev pub IsUntold : Outcome → AskFault → Type 0

@@ -9,6 +9,7 @@ use Rattle.rld_state.specs.Freeing.{TellsFreed, WasFreed, WereFreed}
 use Rattle.rld_state.specs.declared.freeing.Freed.TheVariants as freeds
 use Rattle.rld_serve.specs.Answering.{IsDone, IsRefused, ShowsAccounts, ShowsPage, ShowsReady, ShowsSessions, ShowsStatus}
 use Rattle.rld_serve.specs.AskFault.{octets_of_fault}
+use Rattle.rsl_reply.specs.declared.dictionary.Dictionary.{Dictionary}
 use Rattle.rld_serve.specs.Asked.{IsToldOf, IsUnasked}
 use Rattle.rld_serve.specs.Refusing.{IsUnknownIn, IsUnknownServer, IsWhyNoPage, IsWhyNoSessions, IsWhyNotFreed}
 use Rattle.rld_serve.specs.declared.ask_fault.AskFault.{AskFault}
@@ -22,18 +23,18 @@ session_of _ = None
 
 -- Such octets are its answer, of a server with these networks, to which asks come in at this seat. One that has a
 -- session disconnected has none at once.
-abbrev pub Answers : List Network → Option Seat → Command → (octets : List ℕ) → Type 0
-Answers networks seat (commands.Status form) octets = ShowsStatus form octets
-Answers networks seat commands.Ready octets = ShowsReady octets
-Answers networks seat (commands.Accounts form selection) octets = ShowsAccounts form selection octets
-Answers networks seat (commands.Sessions form name) octets = ShowsSessions form name octets
-Answers networks seat (commands.Links listing) octets = ShowsPage listing octets
-Answers networks seat (commands.Free named) octets = TellsFreed (WasFreed named) octets
-Answers networks seat (commands.FreeServer named) octets = TellsFreed (WereFreed named) octets
-Answers networks seat (commands.Disconnect named) octets = ⊥
-Answers networks seat (commands.Ask form) octets = IsToldOf networks seat (form_of form) octets
-Answers networks seat commands.Reload octets = IsDone octets ⊎ IsRefused octets
-Answers networks seat commands.Stop octets = octets ≡ codes "ok\n"
+abbrev pub Answers : Dictionary → List Network → Option Seat → Command → (octets : List ℕ) → Type 0
+Answers names networks seat (commands.Status form) octets = ShowsStatus form octets
+Answers names networks seat commands.Ready octets = ShowsReady octets
+Answers names networks seat (commands.Accounts form selection) octets = ShowsAccounts form selection octets
+Answers names networks seat (commands.Sessions form name) octets = ShowsSessions form name octets
+Answers names networks seat (commands.Links listing) octets = ShowsPage listing octets
+Answers names networks seat (commands.Free named) octets = TellsFreed (WasFreed named) octets
+Answers names networks seat (commands.FreeServer named) octets = TellsFreed (WereFreed named) octets
+Answers names networks seat (commands.Disconnect named) octets = ⊥
+Answers names networks seat (commands.Ask form) octets = IsToldOf names networks seat (form_of form) octets
+Answers names networks seat commands.Reload octets = IsDone octets ⊎ IsRefused octets
+Answers names networks seat commands.Stop octets = octets ≡ codes "ok\n"
 
 -- such a fault is why it is not done
 abbrev pub IsFaultFor : Command → AskFault → Type 0
@@ -53,5 +54,5 @@ pub record IsToldWhyNot (command : Command) (octets : List ℕ) : Type 0 where
   pub told : octets ≡ octets_of_fault fault
 
 -- such octets are told whoever gave the command
-abbrev pub IsHeardOf : List Network → Option Seat → Command → (octets : List ℕ) → Type 0
-IsHeardOf networks seat command octets = Answers networks seat command octets ⊎ IsToldWhyNot command octets
+abbrev pub IsHeardOf : Dictionary → List Network → Option Seat → Command → (octets : List ℕ) → Type 0
+IsHeardOf names networks seat command octets = Answers names networks seat command octets ⊎ IsToldWhyNot command octets

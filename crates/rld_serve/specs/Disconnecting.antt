@@ -7,8 +7,8 @@ use Rattle.rld_control.specs.declared.disconnected.Disconnected.TheVariants.{Don
 use Rattle.rld_control.specs.declared.fault.FreeFault.{FreeFault}
 use Rattle.rld_control.specs.declared.fault.FreeFault.TheVariants.{UnknownAccount, UnknownClient}
 use Rattle.rld_control.specs.declared.named.NamedSession.{NamedSession}
-use Rattle.rld_disconnect.specs.declared.answer.Answer.{Answer}
-use Rattle.rld_disconnect.specs.declared.answer.Answer.TheVariants.{Ack, Nak}
+use Rattle.rld_control.specs.declared.answer.DisconnectAnswer.{DisconnectAnswer}
+use Rattle.rld_control.specs.declared.answer.DisconnectAnswer.TheVariants.{Ack, Nak}
 use Rattle.rsl_shard.specs.Restep.{BooksSeen}
 use Rattle.rld_state.specs.Disconnecting.{GoesTo}
 use Rattle.rld_state.specs.Freeing.{WasFreed}
@@ -39,7 +39,7 @@ pub record EndsFreed (named : NamedSession) (outcome : Disconnected) : Type 0 wh
   pub is : outcome ≡ after_ack freed
 
 -- what comes of a session to whose request its access server has answered so
-abbrev pub IsOutcomeOf : NamedSession → Answer → Disconnected → Type 0
+abbrev pub IsOutcomeOf : NamedSession → DisconnectAnswer → Disconnected → Type 0
 IsOutcomeOf named Ack outcome = EndsFreed named outcome
 IsOutcomeOf named (Nak cause) outcome = outcome ≡ Refused cause
 
@@ -48,7 +48,7 @@ abbrev pub TellsOutcome : Disconnected → (octets : List ℕ) → Type 0
 TellsOutcome outcome octets = (octets ≡ answer_octets outcome) ⊎ (octets ≡ octets_of_fault NoMemory)
 
 -- the outcome of a session to whose request its access server has answered so
-pub record TellsOutcomeOf (named : NamedSession) (answer : Answer) (octets : List ℕ) : Type 0 where
+pub record TellsOutcomeOf (named : NamedSession) (answer : DisconnectAnswer) (octets : List ℕ) : Type 0 where
   pub outcome : Disconnected
   pub outcome_is : IsOutcomeOf named answer outcome
   pub told : TellsOutcome outcome octets

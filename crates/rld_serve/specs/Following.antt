@@ -1,7 +1,7 @@
--- What follows a start, a turn and a tick.
-use Rattle.std.specs.Prelude.{◌≡◌, ◌⊎◌, ⊤, Bool, true, false, Option, Some, None, Result, Ok, Err}
+-- What follows a start and a tick.
+use Rattle.std.specs.Prelude.{◌≡◌, ◌⊎◌, Bool, true, false, Result, Ok, Err}
 use Rattle.rld_edges.specs.declared.fault.RunFault.{RunFault}
-use Rattle.rld_edges.specs.declared.fault.RunFault.TheVariants.{Threads, Down, Unsynced}
+use Rattle.rld_edges.specs.declared.fault.RunFault.TheVariants.{Threads, Unsynced}
 use Rattle.rld_edges.specs.declared.shutdown.Start.{Start}
 use Rattle.rld_edges.specs.declared.shutdown.Start.TheVariants as starts
 use Rattle.rld_state.specs.Due.{just_begun, put_off}
@@ -10,26 +10,12 @@ use Rattle.rld_state.specs.declared.roll_fault.RollFault.TheVariants as rolls
 use Rattle.rld_state.specs.declared.timer.RollTimer.{RollTimer}
 use Rattle.rld_store.specs.declared.fault.RecordFault.{RecordFault}
 use Rattle.rld_store.specs.declared.fault.RecordFault.TheVariants as records
-use Rattle.rld_turn.specs.declared.ends.Ending.{Ending}
-use Rattle.rld_turn.specs.declared.ends.Ending.TheVariants as endings
 
 -- a worker works once all have started, and not where one has ended already
 abbrev pub is_to_work : Start → Result Bool RunFault
 is_to_work starts.All = Ok true
 is_to_work starts.Over = Ok false
 is_to_work starts.Missing = Err Threads
-
--- another turn follows unless the port failed, or nothing more can be recorded
-abbrev pub fault_after : Ending → Option RunFault
-fault_after endings.Open = None
-fault_after endings.Down = Some Down
-fault_after endings.Ended = Some Unsynced
-
--- a worker goes on unless a socket failed, or its recorder has said that nothing more can be recorded
-abbrev pub IsFaultOf : (has_ended : Bool) → RunFault → Type 0
-IsFaultOf has_ended Down = ⊤
-IsFaultOf has_ended Unsynced = has_ended ≡ true
-IsFaultOf has_ended _ = ⊥
 
 -- What follows a tick: whether it was recorded, or a batch of another worker was not meanwhile. The worker ends
 -- where nothing more can be recorded.

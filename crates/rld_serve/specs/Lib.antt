@@ -1,13 +1,10 @@
 pub mod Answering
 pub mod AskFault
 pub mod Asked
-pub mod Asking
 pub mod Commands
 pub mod Disconnecting
 pub mod Following
 pub mod Hearing
 pub mod Look
-pub mod Noting
 pub mod Refusing
-pub mod Requests
-pub mod Turning
+pub mod Strangers

@@ -21,11 +21,9 @@ use rld_control::{
     AccountLinks, Command, Form, FreeFault, Listing, NamedServer, NamedSession, Reply, Selection,
 };
 use rld_edges::Operator;
-use rld_lists::{Holder, Shown, accounts_text, links_text, page_text};
-use rld_look::Health;
 use rld_start::Generations;
 use rld_state::{Freed, LinksPage};
-use rld_text::ready_text;
+use rld_text::{Holder, Shown, accounts_text, links_text, page_text, ready_text};
 use rsl_accounts::Config;
 use rsl_port::{Clock, SystemClock};
 use rsl_wire::Octets;
@@ -96,7 +94,7 @@ where
     /// Does a command, and has the operator hear the answer, unless that comes later.
     fn do_command<H: Hear>(&self, operator: &mut H, command: &Command) -> Heard
         ensures now { result ≡ Heard.Now →
-            HasHeardOne (IsHeardOf self.now.plan.networks.now self.now.seat command.now)
+            HasHeardOne (IsHeardOf self.now.plan.names.now self.now.plan.networks.now self.now.seat command.now)
             (H.heard operator.old) (H.heard operator.new) }
         ensures later { result ≡ Heard.Later → H.heard operator.new ≡ H.heard operator.old }
         ensures named { result ≡ Heard.Later → session_of command.now ≡ None → ⊥ }
@@ -119,7 +117,7 @@ where
     fn answer_to(&self, command: &Command) -> Option<Result<Vec<u8>, AskFault>>
         ensures later { IfNone result (session_of command.now ≡ None → ⊥) }
         ensures done { IfSome result (λ answer.
-            IfOk answer (λ octets. Answers self.now.plan.networks.now self.now.seat command.now octets.items)) }
+            IfOk answer (λ octets. Answers self.now.plan.names.now self.now.plan.networks.now self.now.seat command.now octets.items)) }
         ensures fault { IfSome result (λ answer. IfErr answer (IsFaultFor command.now)) }
     {
         Some(match command {
@@ -134,6 +132,7 @@ where
             Command::Ask(form) => self.ask(form.as_slice()),
             Command::Reload => self.reload(),
             Command::Stop => {
+                self.is_stopped.store(true, Ordering::SeqCst);
                 self.shutdown.end();
                 self.told(Reply::Done(b""))
             }
@@ -164,9 +163,7 @@ where
         ensures shown { IfOk result (λ octets. ShowsReady octets.items) }
         ensures fault { IfErr result (λ fault. fault ≡ NoMemory) }
     {
-        let behind = self.clock_behind.load(Ordering::SeqCst);
-        let health = Health::of(self.recording(), behind);
-        Ok(ready_text(self.alloc, health)?)
+        Ok(ready_text(self.alloc, self.health_now())?)
     }
 
     /// The answer to `accounts`.

@@ -12,8 +12,7 @@ use crate::accounts::Accounts;
 use crate::ask_fault::AskFault;
 use crate::hearing::Hear;
 use crate::server::Server;
-use rld_control::{DisconnectFault, Disconnected, FreeFault, NamedSession};
-use rld_disconnect::Answer;
+use rld_control::{DisconnectAnswer, DisconnectFault, Disconnected, FreeFault, NamedSession};
 use rld_edges::{MOST_ORDERS, Operator, Order, RunFault, UnderWay, Unsent};
 use rld_start::Generations;
 use rld_state::Freed;
@@ -92,7 +91,7 @@ where
 
     /// Has an operator hear what comes of the session that he named, to whose request its access server
     /// has answered so.
-    fn tell_answer<H: Hear>(&self, operator: &mut H, named: &NamedSession, answer: Answer)
+    fn tell_answer<H: Hear>(&self, operator: &mut H, named: &NamedSession, answer: DisconnectAnswer)
         ensures { HasHeardOne (TellsOutcomeOf named.now answer)
             (H.heard operator.old) (H.heard operator.new) }
     {
@@ -109,12 +108,12 @@ where
 
     /// What comes of a session to whose request its access server has answered so: where the session has ended its
     /// place is freed, as by its Stop, unless that has come already.
-    fn outcome_of(&self, named: &NamedSession, answer: Answer) -> Disconnected
+    fn outcome_of(&self, named: &NamedSession, answer: DisconnectAnswer) -> Disconnected
         ensures { IsOutcomeOf named.now answer result }
     {
         match answer {
-            Answer::Ack => after_ack(&self.freed(named)),
-            Answer::Nak(cause) => Disconnected::Refused(cause),
+            DisconnectAnswer::Ack => after_ack(&self.freed(named)),
+            DisconnectAnswer::Nak(cause) => Disconnected::Refused(cause),
         }
     }
 

@@ -1,6 +1,6 @@
 //! What the store shows of itself, and what is shown of it.
 
-ghost use Rattle.std.specs.Prelude.{◌≡◌, IfOk, IfSome, length, option_and_then, slice_get, ℕ};
+ghost use Rattle.std.specs.Prelude.{◌≡◌, ◌<◌, ◌^◌, IfOk, IfSome, length, option_and_then, slice_get, ℕ};
 ghost use Rattle.std.specs.Arc.{arc_value};
 ghost use Rattle.std.specs.List.Sorted.{IsNonDecreasingBy, IsPermutation};
 ghost use Rattle.rld_books.specs.Saved.{rows_in};
@@ -8,6 +8,7 @@ ghost use Rattle.rld_look.specs.Accounts.{AreFullest, held_in, looks_of};
 ghost use Rattle.rld_look.specs.Clients.{IsClientLook};
 ghost use Rattle.rld_look.specs.Totals.{totals_of};
 ghost use Rattle.rld_serve.specs.Look.{rest_of};
+ghost use Rattle.rld_start.specs.Counted.{sessions_in};
 ghost use Rattle.rld_state.specs.Places.{places_in};
 ghost use Rattle.rld_warnings.specs.Warning.{books_octets};
 ghost use Rattle.rsl_accounts.specs.Configuration.{account_number};
@@ -18,7 +19,8 @@ use rld_look::{
     SocketLook, Totals, client_looks, fullest_looks, held_in,
 };
 use rld_spelling::Header;
-use rld_state::{ServerState, places_in};
+use rld_start::sessions_in;
+use rld_state::{ServerState, Standing, places_in};
 use rld_warnings::books_octets;
 use rld_watch::GateCounts;
 use rsl_accounts::Config;
@@ -85,6 +87,20 @@ impl Holdings {
         ensures { result ≡ held_in self.now.rows.items }
     {
         held_in(self.rows.as_slice())
+    }
+
+    /// Where the server stands.
+    pub(crate) fn standing(&self) -> Standing
+        ensures era { result.era ≡ self.now.header.era }
+        ensures generation { result.generation ≡ self.now.header.generation }
+        ensures sessions { sessions_in self.now.rows.items < 2 ^ 64 →
+            result.sessions ≡ sessions_in self.now.rows.items }
+    {
+        Standing {
+            era: self.header.era,
+            generation: self.header.generation,
+            sessions: sessions_in(self.rows.as_slice()),
+        }
     }
 
     /// The places of the account with this name, if there is one.

@@ -9,10 +9,7 @@
 mod accounts;
 mod answering;
 mod ask_fault;
-mod ask_port;
-mod ask_watch;
 mod asking;
-mod current;
 mod disconnecting;
 mod following;
 mod hearing;
@@ -23,9 +20,9 @@ mod reloading;
 mod reporting;
 mod rolling;
 mod server;
-mod shared_recorder;
 mod showing;
 mod status;
+mod strangers;
 
 pub use accounts::{Accounts, AccountsFault};
 pub use rld_edges::{Access, Control, RunFault, Sockets};

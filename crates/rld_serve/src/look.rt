@@ -6,8 +6,8 @@ ghost use Rattle.rld_serve.specs.Look.{recording_of};
 use crate::holdings::{Holdings, Rest};
 use crate::server::Server;
 use rld_look::{
-    AccessServersLook, AccountsLook, Look, Minute, Recording, SocketLook, add_links, join_servers,
-    socket_in,
+    AccessServersLook, AccountsLook, Health, Look, Minute, Recording, SocketLook, add_links,
+    join_servers, socket_in,
 };
 use rld_state::LinksPage;
 use rld_watch::{GateCounts, counts_of};
@@ -136,6 +136,12 @@ impl<'a, G, A, R: time::Clock + Wait> Server<'a, G, A, R> {
     /// Whether batches are being recorded, as far as the worker that makes ticks has seen.
     pub(crate) fn recording(&self) -> Recording {
         recording_of(self.is_failing.load(Ordering::SeqCst))
+    }
+
+    /// How the server is. Two words are read for it, and no lock is taken.
+    pub(crate) fn health_now(&self) -> Health {
+        let behind = self.clock_behind.load(Ordering::SeqCst);
+        Health::of(self.recording(), behind)
     }
 
     /// The last whole minutes.

@@ -1,17 +1,13 @@
 //! The workers that receive datagrams.
 
-ghost use Rattle.std.specs.Prelude.{◌≡◌, false, IfErr, OnOk};
-ghost use Rattle.rld_serve.specs.Following.{IsFaultOf};
+ghost use Rattle.std.specs.Prelude.{◌≡◌, IfErr};
+ghost use Rattle.rld_current.specs.Turning.{IsFaultOfTurn};
 
 use crate::accounts::Accounts;
-use crate::current::PresentReceiver;
-use crate::following::fault_after;
 use crate::server::Server;
-use crate::shared_recorder::SharedRecorder;
 use rld_edges::{Bound, Readiness, RunFault, SocketPort};
-use rld_log::{FileLog, PacedLog};
 use rld_start::Generations;
-use rld_turn::Turn;
+use rld_turn::Receiver;
 use rld_watch::{WatchContext, Watcher};
 use rsl_event::Port;
 use rsl_port::SystemClock;
@@ -21,9 +17,8 @@ use std::time;
 
 /// What a receiver keeps from turn to turn.
 #[derive(Drop)]
-struct Place<'s, 'a, R: Wait + time::Clock> {
-    receiver: PresentReceiver,
-    recorder: SharedRecorder<'s, PacedLog<'a, FileLog>, R>,
+struct Place<'s, R: Wait + time::Clock> {
+    receiver: Receiver,
     clock: SystemClock<'s, R>,
     watcher: Watcher<'s, R>,
 }
@@ -60,8 +55,7 @@ where
             return Ok(());
         };
         let mut place = Place {
-            receiver: PresentReceiver::new(self.alloc, port)?,
-            recorder: self.recorder(),
+            receiver: Receiver::new(self.alloc, port)?,
             clock: SystemClock::new(self.rt, self.plan.start),
             watcher,
         };
@@ -81,36 +75,30 @@ where
     }
 
     /// Takes a turn on a socket. `Down` comes if the socket failed, and `Unsynced` if nothing more
-    /// can be recorded: no turn follows one whose recorder has said so.
+    /// can be recorded: no turn follows then.
     fn take_turn(
         &self,
         bound: &Bound,
         port: Port,
-        place: &mut Place<'_, 'a, R>,
+        place: &mut Place<'_, R>,
     ) -> Result<Next, RunFault>
-        requires { place.old.receiver.receiver.port ≡ port }
-        ensures port { place.new.receiver.receiver.port ≡ port }
-        ensures goes_on { place.old.recorder.has_ended ≡ false →
-            OnOk result (place.new.recorder.has_ended ≡ false) }
-        ensures ends { place.old.recorder.has_ended ≡ false →
-            IfErr result (IsFaultOf place.new.recorder.has_ended) }
+        requires { place.old.receiver.port ≡ port }
+        ensures port { place.new.receiver.port ≡ port }
+        ensures fault { IfErr result IsFaultOfTurn }
     {
         let current = self.current.read(self.rt);
         let status = bound
             .status_server
             .then_some(current.status(self.plan.networks, port));
         let mut datagrams = SocketPort::new(&bound.socket, self.alloc, status);
-        let Turn { ending, .. } = place.receiver.turn(
+        let turn = self.shared().turn(
             &*current,
-            self.plan.networks,
-            &mut datagrams,
-            &mut place.recorder,
+            &mut place.receiver,
             &mut place.clock,
+            &mut datagrams,
             &mut place.watcher,
         );
-        if let Some(fault) = fault_after(ending) {
-            return Err(fault);
-        }
+        turn.outcome()?;
         if datagrams.is_drained() {
             Ok(Next::Wait)
         } else {

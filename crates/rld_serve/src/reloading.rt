@@ -10,10 +10,10 @@ ghost use Rattle.rld_serve.specs.declared.ask_fault.AskFault.TheVariants.{NoMemo
 
 use crate::accounts::{Accounts, AccountsFault};
 use crate::ask_fault::AskFault;
-use crate::current::Current;
 use crate::server::Server;
 use rld_control::Reply;
 use rld_counts::ClientCounts;
+use rld_current::Current;
 use rld_log::{FileLog, PacedLog};
 use rld_start::{Generations, NextEra, has_same_clients, is_same_era};
 use rld_state::{ReloadFault, Reloaded, RollFault, Told};
@@ -51,7 +51,7 @@ where
 {
     /// Reads the accounts again, and goes on with them: within the present era if it has their
     /// table, and else in a new one. Gives the answer to the operator. If it is `error`, nothing
-    /// has changed.
+    /// has changed. Where the disk has no room for a new era, the worker that makes ticks is asked for some.
     pub(crate) fn reload(&self) -> Result<Vec<u8>, AskFault>
         ensures told { IfOk result (λ octets. IsDone octets.items ⊎ IsRefused octets.items) }
         ensures fault { IfErr result (λ fault. fault ≡ NoMemory) }
@@ -62,8 +62,10 @@ where
             Err(AccountsFault::NoMemory) => return Err(AskFault::NoMemory),
         };
         let changed = self.change_accounts(config);
-        if let Ok(reloaded) = changed {
-            self.tell(Told::Accounts(reloaded));
+        match changed {
+            Ok(reloaded) => self.tell(Told::Accounts(reloaded)),
+            Err(fault) if fault.is_full() => self.plan.pacing.ticks.want_room(),
+            Err(_) => {}
         }
         self.told_change(changed)
     }

@@ -11,6 +11,7 @@ use rld_start::Generations;
 use rld_state::{Ascii, Told, ToldLine};
 use std::net::Net;
 use std::sync::Wait;
+use std::sync::atomic::Ordering;
 use std::thread;
 use std::time::{self, Duration};
 
@@ -61,7 +62,20 @@ where
             }
             self.pass_second(&mut writer);
         }
+        self.report_end(&mut writer);
         Ok(())
+    }
+
+    /// Writes the last line, where an operator has asked the server to end: where it stands. There is none if
+    /// memory for it is refused.
+    fn report_end(&self, writer: &mut StderrWriter) {
+        if !self.is_stopped.load(Ordering::SeqCst) {
+            return;
+        }
+        if let Ok(holdings) = self.holdings() {
+            self.tell(Told::Stopped(holdings.standing()));
+            self.report_told(writer);
+        }
     }
 
     /// Lets a second pass, or the time until the server is to end. Reports other than refusals are

@@ -16,6 +16,9 @@ use std::net::Net;
 use std::sync::Wait;
 use std::time;
 
+/// The most often that the archive is asked for room, for one generation.
+const MOST_ROOMS: u32 = 20_000;
+
 /// What the worker that makes ticks keeps about the generations.
 #[derive(Drop)]
 pub(crate) struct Rolls {
@@ -64,13 +67,46 @@ where
         if !rolls.timer.is_due(moves) {
             return Ok(());
         }
-        let rolled = self.roll();
+        let rolled = self.roll_in_room();
         self.tell_if_any(notice_of_roll(&mut rolls.begins, rolled));
         rolls.timer = timer_after(rolls.timer, rolled)?;
         if rolled.is_ok() {
             self.put_away(rolls, now);
         }
         Ok(())
+    }
+
+    /// Begins the next generation. Where the disk has no room for it, the oldest logs of the archive go, and it
+    /// is tried again. The lock of the store is not held while logs go.
+    fn roll_in_room(&self) -> Result<(), RollFault> {
+        for _ in 0..MOST_ROOMS {
+            let rolled = self.roll();
+            match rolled {
+                Err(fault) if fault.is_full() && self.make_room() => {}
+                _ => return rolled,
+            }
+        }
+        self.roll()
+    }
+
+    /// Has the oldest logs of the archive removed, for a disk without room, and reports which. Gives whether
+    /// there were any. No lock is held meanwhile: a receiver waits for none of it.
+    pub(crate) fn make_room(&self) -> bool {
+        match self.generations.make_room(self.alloc) {
+            Ok(Some(made)) => {
+                self.tell(Told::Room(made));
+                self.look_at_archive();
+                true
+            }
+            Ok(None) | Err(_) => false,
+        }
+    }
+
+    /// Keeps what the archive now has for whoever looks.
+    fn look_at_archive(&self) {
+        if let Ok(logs) = self.generations.archived_logs(self.alloc) {
+            *self.archive.lock(self.rt) = archive_look(logs.as_slice());
+        }
     }
 
     /// Begins the next generation. Its log is made before the lock is taken.
@@ -90,9 +126,7 @@ where
         let newest = Written::by(self.state.lock(self.rt).recorder());
         let outcome = self.generations.put_away(self.alloc, newest, now);
         self.tell_if_any(notice_of_archive(&mut rolls.archive, outcome));
-        if let Ok(logs) = self.generations.archived_logs(self.alloc) {
-            *self.archive.lock(self.rt) = archive_look(logs.as_slice());
-        }
+        self.look_at_archive();
     }
 
     /// Reports a notice, if there is one.

@@ -1,4 +1,4 @@
-ghost use Rattle.std.specs.Prelude.{◌≡◌, Err, IfErr, IfOk, IfSome, IsTrue, OnOk, false, length, map, true};
+ghost use Rattle.std.specs.Prelude.{◌≡◌, Err, IfErr, IfOk, IfSome, IsTrue, false, length, map};
 ghost use Rattle.std.specs.List.{filter_map};
 ghost use Rattle.rld_books.specs.Saved.{IsServerOf};
 ghost use Rattle.rld_edges.specs.Fault.{fault_in, gravest};
@@ -10,13 +10,12 @@ ghost use Rattle.rld_watch.specs.Ending.{gate_of};
 
 use crate::accounts::Accounts;
 use crate::asking::Seat;
-use crate::current::Current;
 use crate::following::{failed_by, is_to_work};
 use crate::reporting::MOST_TOLD;
 use crate::rolling::Rolls;
-use crate::shared_recorder::SharedRecorder;
 use circular_buffer::HeapCircularBuffer;
 use rld_ask::Asks;
+use rld_current::{Current, Shared};
 use rld_edges::{
     Control, Job, Orders, Readiness, RunFault, Shutdown, Sockets, outcome_of, ports_of,
 };
@@ -28,11 +27,11 @@ use rld_spelling::Header;
 use rld_start::Generations;
 use rld_state::{ServerState, Told, Trouble, news_of_clock, seconds_behind};
 use rld_store::Store;
-use rld_turn::tick;
 use rld_watch::{Board, Gate};
 use rsl_accounts::Config;
 use rsl_event::Port;
 use rsl_port::{Clock, SystemClock};
+use rsl_reply::Dictionary;
 use std::alloc::{AllocError, Global};
 use std::net::{Net, TcpListener, TcpStream};
 use std::sync::atomic::{AtomicBool, AtomicU64, Ordering};
@@ -50,6 +49,8 @@ const _: () = prove!(TICK_SECS == 1);
 pub struct Plan<'a> {
     /// The build that runs.
     pub build: Build,
+    /// The names that attributes have.
+    pub names: &'a Dictionary,
     /// The networks that stand for its clients.
     pub networks: &'a [Network],
     /// The boot number of its Classes.
@@ -84,6 +85,8 @@ pub(crate) struct Server<'a, G, A, R> {
     pub(crate) told: Mutex<HeapCircularBuffer<Told>>,
     pub(crate) history: Mutex<History>,
     pub(crate) is_failing: AtomicBool,
+    /// Whether an operator has asked it to end.
+    pub(crate) is_stopped: AtomicBool,
     pub(crate) clock_behind: AtomicU64,
     pub(crate) archive: Mutex<ArchiveLook>,
     /// The sessions that are to be disconnected.
@@ -108,9 +111,11 @@ pub(crate) struct Server<'a, G, A, R> {
 /// The store's books are of these accounts, and it writes the generation of the plan's header, which
 /// has the digest of their table under the plan's boot number. `key` is the right to remove its log.
 ///
-/// `greeting` is written to standard error once all workers have started. A line says when batches
+/// `greeting` is written to standard error once all workers have started, and a last line where an operator
+/// has asked it to end. A line says when batches
 /// are no longer recorded, and when they are again; so it does if a generation cannot begin, or
-/// logs cannot be put away. Each refused datagram has a line, up to 20 of a cause each second, and
+/// logs cannot be put away. Where the disk has no room, the oldest logs of the archive go, within a second, and a
+/// line says which. Each refused datagram has a line, up to 20 of a cause each second, and
 /// a line gives the number of the others.
 ///
 /// `Threads` comes if a worker has not started within about five seconds, `Down` if a socket fails,
@@ -184,6 +189,7 @@ where
         told: Mutex::new(told),
         history: Mutex::new(history),
         is_failing: AtomicBool::new(false),
+        is_stopped: AtomicBool::new(false),
         clock_behind: AtomicU64::new(0),
         archive: Mutex::new(ArchiveLook { logs: 0, octets: 0 }),
         orders,
@@ -329,13 +335,6 @@ where
         is_to_work(self.shutdown.await_start(self.rt))
     }
 
-    /// The recorder, for a worker.
-    pub(crate) fn recorder(&self) -> SharedRecorder<'_, PacedLog<'a, FileLog>, R>
-        ensures { result.has_ended ≡ false }
-    {
-        SharedRecorder::new(self.rt, &self.state)
-    }
-
     /// Answers operators, one after the other.
     fn answer_all(&self, control: &Control) -> Result<(), RunFault> {
         let mut readiness = Readiness::of(self.rt, self.alloc, control.listener())?;
@@ -359,7 +358,6 @@ where
         if !self.has_started()? {
             return Ok(());
         }
-        let mut recorder = self.recorder();
         let mut clock = SystemClock::new(self.rt, self.plan.start);
         let mut trouble = Trouble::new();
         let mut clock_trouble = Trouble::new();
@@ -369,7 +367,8 @@ where
             if self.shutdown.is_over() {
                 break;
             }
-            let has_failed = self.tick_once(&mut recorder, &mut clock)?;
+            let has_failed = self.tick_once(&mut clock)?;
+            let has_failed = self.tick_in_room(has_failed, &mut clock)?;
             self.is_failing.store(has_failed, Ordering::SeqCst);
             self.watch_clock(&mut clock_trouble, &mut clock);
             self.end_minute_if_over(clock.now());
@@ -380,6 +379,28 @@ where
             thread::sleep(self.rt, Duration::from_secs(TICK_SECS));
         }
         Ok(())
+    }
+
+    /// Where the disk has had no room since the last call: the oldest logs of the archive go, and another tick
+    /// is made, until there is room or the archive has no log. Gives whether that tick, or a batch of another
+    /// worker since logs went, was not recorded; that is `has_failed` where no log has gone.
+    fn tick_in_room(
+        &self,
+        has_failed: bool,
+        clock: &mut SystemClock<'_, R>,
+    ) -> Result<bool, RunFault> {
+        let ticks = self.plan.pacing.ticks;
+        let mut has_failed = has_failed;
+        for _ in self.rt.forever() {
+            if !ticks.take_wants_room() || !self.make_room() {
+                break;
+            }
+            // what found no room before may find some now, and the line on what was removed tells of it
+            let _ = ticks.take_wants_room();
+            let _ = self.shared().take_failed();
+            has_failed = self.tick_once(clock)?;
+        }
+        Ok(has_failed)
     }
 
     /// Looks whether the clock is behind the books, and reports where that begins and where it is over. The
@@ -394,19 +415,27 @@ where
     }
 
     /// Makes a tick, and gives whether it, or a batch of another worker since the last one, was not
-    /// recorded.
-    fn tick_once(
-        &self,
-        recorder: &mut SharedRecorder<'_, PacedLog<'a, FileLog>, R>,
-        clock: &mut SystemClock<'_, R>,
-    ) -> Result<bool, RunFault>
-        ensures goes_on { recorder.old.has_ended ≡ false →
-            OnOk result (recorder.new.has_ended ≡ false) }
-        ensures ends { recorder.old.has_ended ≡ false → IfErr result (λ fault.
-            (fault ≡ Unsynced) × (recorder.new.has_ended ≡ true)) }
+    /// recorded. `Unsynced` comes where nothing more can be.
+    fn tick_once(&self, clock: &mut SystemClock<'_, R>) -> Result<bool, RunFault>
+        ensures { IfErr result (λ fault. fault ≡ Unsynced) }
     {
         self.plan.pacing.ticks.begin();
-        let ticked = tick(self.alloc, recorder, clock);
-        failed_by(ticked, recorder.take_failed())
+        let shared = self.shared();
+        let ticked = shared.tick(clock.now());
+        failed_by(ticked, shared.take_failed())
+    }
+}
+
+impl<'a, G, A, R> Server<'a, G, A, R> {
+    /// What turns share.
+    pub(crate) fn shared(&self) -> Shared<'_, PacedLog<'a, FileLog>, R>
+        ensures { result.networks.now ≡ self.now.plan.networks.now }
+    {
+        Shared {
+            rt: self.rt,
+            alloc: self.alloc,
+            state: &self.state,
+            networks: self.plan.networks,
+        }
     }
 }

@@ -3,7 +3,7 @@
 use crate::accounts::Accounts;
 use crate::server::Server;
 use rld_edges::RunFault;
-use rld_look::{AccountsLook, Look, Pages, Shown};
+use rld_look::{AccountsLook, Health, Look, Pages, Shown};
 use rld_start::Generations;
 use rsl_wire::NoMemory;
 use std::io::Eprint;
@@ -12,6 +12,10 @@ use std::sync::Wait;
 use std::time;
 
 impl<'a, G, A, R: time::Clock + Wait> Shown for Server<'a, G, A, R> {
+    fn health(&self) -> Health {
+        self.health_now()
+    }
+
     fn take_look(&self, _now: u64) -> Result<Look, NoMemory> {
         self.look()
     }

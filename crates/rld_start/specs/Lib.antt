@@ -13,5 +13,6 @@ pub mod NewNumbers
 pub mod NextHeaders
 pub mod Numbers
 pub mod Rebased
+pub mod Room
 pub mod Status
 pub mod Wrongs

@@ -32,6 +32,7 @@ status_of_folder folders.Busy = InputOutput
 status_of_folder folders.Unlocked = InputOutput
 status_of_folder folders.Unopened = InputOutput
 status_of_folder folders.Unwritten = InputOutput
+status_of_folder folders.NoRoom = InputOutput
 status_of_folder folders.Unmoved = InputOutput
 status_of_folder folders.Unremoved = InputOutput
 status_of_folder folders.Unsynced = Unsynced
@@ -40,6 +41,7 @@ abbrev pub status_of_log : LogFault → EndStatus
 status_of_log logs.NoMemory = NoMemory
 status_of_log logs.Unread = InputOutput
 status_of_log logs.Unwritten = InputOutput
+status_of_log logs.NoRoom = InputOutput
 status_of_log logs.Uncut = InputOutput
 status_of_log logs.Unsynced = Unsynced
 

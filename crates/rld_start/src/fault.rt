@@ -82,6 +82,7 @@ fn status_of_folder(fault: FolderFault) -> EndStatus
         | FolderFault::Unlocked
         | FolderFault::Unopened
         | FolderFault::Unwritten
+        | FolderFault::NoRoom
         | FolderFault::Unmoved
         | FolderFault::Unremoved => EndStatus::InputOutput,
     }
@@ -94,7 +95,9 @@ fn status_of_log(fault: LogFault) -> EndStatus
     match fault {
         LogFault::NoMemory => EndStatus::NoMemory,
         LogFault::Unsynced => EndStatus::Unsynced,
-        LogFault::Unread | LogFault::Unwritten | LogFault::Uncut => EndStatus::InputOutput,
+        LogFault::Unread | LogFault::Unwritten | LogFault::NoRoom | LogFault::Uncut => {
+            EndStatus::InputOutput
+        }
     }
 }
 

@@ -17,8 +17,8 @@ use rld_admit::era_file;
 use rld_books::BlankBooks;
 use rld_config::Archive;
 use rld_folder::{
-    ArchivedLog, FileName, Folder, FolderFault, Generation, LogKey, NewLog, Removed, Synced,
-    older_logs,
+    ArchivedLog, FileName, Folder, FolderFault, Generation, LogKey, NewLog, Removed, RoomMade,
+    Synced, older_logs,
 };
 use rld_log::{FileLog, Log, PacedLog, Pacing};
 use rsl_accounts::Config;
@@ -124,6 +124,11 @@ pub trait Generations {
     /// The first fault is the folder's. What cannot be put away stays in place, and the next call
     /// tries it again; nothing that a start needs is moved.
     fn put_away(&self, alloc: Global, newest: Written, now: u64) -> Result<(), FolderFault>;
+
+    /// Removes the oldest logs of the archive, for a disk without room, and says which; `None` where the
+    /// archive has none that takes room. The fault is the folder's; some of the logs may then be gone. Nothing
+    /// that a start needs is removed, and no table of an era: `put_away` removes that of one without logs.
+    fn make_room(&self, alloc: Global) -> Result<Option<RoomMade>, FolderFault>;
 
     /// The logs of the archive, in no order, each with its octets; none where there is no archive. `Unread`
     /// comes where the archive, or what the system knows of a log, cannot be read.
@@ -335,6 +340,10 @@ impl<R: Files<File = File>> Generations for FolderGenerations<'_, R> {
             Ok(()) => removed,
             Err(fault) => Err(fault),
         }
+    }
+
+    fn make_room(&self, alloc: Global) -> Result<Option<RoomMade>, FolderFault> {
+        self.folder.make_room(&(self.files, alloc))
     }
 
     fn archived_logs(&self, alloc: Global) -> Result<Vec<ArchivedLog>, FolderFault> {

@@ -125,7 +125,8 @@ pub(crate) fn make_era<R: Files<File = File>>(
 
 /// Begins an era with the table of these octets and with these books, under a number that no file
 /// of the folder has, in a log that is synced as the pacing says. A crash at any call leaves no
-/// generation that was begun, or all of it.
+/// generation that was begun, or all of it. After a fault of that log it is removed if possible, so that the
+/// disk has its room.
 pub(crate) fn begin_era<'a, R: Files<File = File>>(
     files: &R,
     alloc: Global,
@@ -165,6 +166,9 @@ pub(crate) fn begin_era<'a, R: Files<File = File>>(
             key,
             tabled,
         }),
-        Err(refused) => Err(log_refused(generation_named(&header), refused.fault)),
+        Err(refused) => {
+            let _ = folder.remove_log(files, alloc, key);
+            Err(log_refused(generation_named(&header), refused.fault))
+        }
     }
 }

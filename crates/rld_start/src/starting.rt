@@ -379,7 +379,8 @@ fn following(header: &Header, names: &[FileName], moves: u64) -> Result<Header, 
     }
 }
 
-/// Lets a store go on in the log of a new generation, and gives the key of that log.
+/// Lets a store go on in the log of a new generation, and gives the key of that log. After a fault of that
+/// log it is removed if possible, so that the disk has its room.
 fn renew<'a, R: Files<File = File>>(
     files: &R,
     alloc: Global,
@@ -396,6 +397,9 @@ fn renew<'a, R: Files<File = File>>(
     let NewLog { key, log } = create_log(files, alloc, folder, generation)?;
     match store.roll(alloc, header, PacedLog::new(log, pacing)) {
         Ok(_older) => Ok(key),
-        Err(refused) => Err(log_refused(generation, refused.fault)),
+        Err(refused) => {
+            let _ = folder.remove_log(files, alloc, key);
+            Err(log_refused(generation, refused.fault))
+        }
     }
 }

@@ -8,5 +8,6 @@ pub mod Keeping
 pub mod Listing
 pub mod Notices
 pub mod Places
+pub mod Room
 pub mod Told
 pub mod Troubled

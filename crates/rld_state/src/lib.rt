@@ -41,5 +41,5 @@ pub use reload_result::{EraChange, PresentEra, ReloadFault, Reloaded};
 pub use roll_fault::{NotBegun, Notice, RollFault, notice_of_archive, notice_of_roll};
 pub use state::ServerState;
 pub use timer::RollTimer;
-pub use told::{Ascii, Told, ToldLine};
+pub use told::{Ascii, Standing, Told, ToldLine};
 pub use trouble::{News, Trouble};

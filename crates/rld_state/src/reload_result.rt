@@ -1,5 +1,6 @@
 ghost use Rattle.std.specs.Prelude.{◌≡◌};
 ghost use Rattle.rld_state.specs.Keeping.{fault_of};
+ghost use Rattle.rld_state.specs.Room.{is_full_for_reload};
 ghost use Rattle.rld_state.specs.declared.reload_result.ReloadFault.TheVariants.{NoMemory as no_memory, NotBegun as unbegun};
 
 use crate::roll_fault::{NotBegun, RollFault};
@@ -63,6 +64,18 @@ pub enum ReloadFault {
     /// Memory was refused.
     #[error("no memory")]
     NoMemory,
+}
+
+impl ReloadFault {
+    /// Whether the disk had no room for the new era.
+    pub fn is_full(&self) -> bool
+        ensures { result ≡ is_full_for_reload self.now }
+    {
+        match self {
+            ReloadFault::NotBegun(fault) => fault.is_full(),
+            ReloadFault::Changed | ReloadFault::NoMemory => false,
+        }
+    }
 }
 
 impl From<RollFault> for ReloadFault {

@@ -1,12 +1,14 @@
 ghost use Rattle.std.specs.Prelude.{◌≡◌, is_err};
 ghost use Rattle.rld_state.specs.Keeping.{fault_of};
 ghost use Rattle.rld_state.specs.Notices.{archive_notice, roll_notice};
+ghost use Rattle.rld_state.specs.Room.{is_full_for_roll, is_full_for_store};
 ghost use Rattle.rld_state.specs.declared.roll_fault.RollFault.TheVariants.{Start as unmade};
 ghost use Rattle.rld_start.specs.Faults.{fault_of_folder};
 ghost use Rattle.rld_start.specs.declared.fault.StartFault.TheVariants.{NoMemory as no_memory};
 
 use crate::trouble::{News, Trouble};
 use rld_folder::{FolderFault, Removed};
+use rld_log::LogFault;
 use rld_start::StartFault;
 use rld_store::StoreFault;
 use rsl_wire::NoMemory;
@@ -37,6 +39,26 @@ pub enum NotBegun {
     PassedOver(RollFault, Removed),
     /// Nothing more is recorded: nothing could be before, or that log could not be removed.
     Ended,
+}
+
+/// Whether the disk had no room for what a store had to write.
+fn is_full_for_store(fault: StoreFault) -> bool
+    ensures { result ≡ is_full_for_store fault }
+{
+    matches!(fault, StoreFault::Log(LogFault::NoRoom))
+}
+
+impl RollFault {
+    /// Whether the disk had no room for it.
+    pub fn is_full(&self) -> bool
+        ensures { result ≡ is_full_for_roll self.now }
+    {
+        match self {
+            RollFault::Start(fault) => fault.is_full(),
+            RollFault::Store(fault) => is_full_for_store(*fault),
+            RollFault::Former | RollFault::Ended => false,
+        }
+    }
 }
 
 impl From<NotBegun> for RollFault {

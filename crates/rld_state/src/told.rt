@@ -5,6 +5,7 @@ use crate::clock::ClockNews;
 use crate::reload_result::Reloaded;
 use crate::roll_fault::Notice;
 use crate::trouble::News;
+use rld_folder::RoomMade;
 use rld_look::{Priority, Sink};
 use std::fmt;
 
@@ -21,6 +22,21 @@ pub enum Told {
     Accounts(Reloaded),
     /// How many requests over HTTP were refused that are no asks: without the token, and others.
     Asks(u64, u64),
+    /// Logs that left the archive, for the disk had no room.
+    Room(RoomMade),
+    /// It ends, for an operator asked for that.
+    Stopped(Standing),
+}
+
+/// Where a server stands as it ends.
+#[derive(Clone, Copy)]
+pub struct Standing {
+    /// The number of its era.
+    pub era: u64,
+    /// The number of the generation that it wrote.
+    pub generation: u64,
+    /// The number of sessions that hold a link.
+    pub sessions: u64,
 }
 
 impl Told {
@@ -32,11 +48,13 @@ impl Told {
             Told::Recording(News::Began) => Priority::Error,
             Told::Clock(ClockNews::Behind(_))
             | Told::Generations(Notice::NotBegun(_) | Notice::NotPutAway(_))
-            | Told::Asks(_, _) => Priority::Warning,
+            | Told::Asks(_, _)
+            | Told::Room(_) => Priority::Warning,
             Told::Recording(News::Over)
             | Told::Clock(ClockNews::CaughtUp)
             | Told::Generations(Notice::Begun | Notice::PutAway)
-            | Told::Accounts(_) => Priority::Notice,
+            | Told::Accounts(_)
+            | Told::Stopped(_) => Priority::Notice,
         }
     }
 }
@@ -64,6 +82,12 @@ impl fmt::Display for ToldLine {
                     "requests to ask refused: {token} without the token, {other} others"
                 )?;
             }
+            Told::Room(made) => made.fmt(f)?,
+            Told::Stopped(standing) => write!(
+                f,
+                "stopped: era {}, generation {}: {} sessions",
+                standing.era, standing.generation, standing.sessions
+            )?,
         }
         f.write_str("\n")
     }

@@ -6,4 +6,3 @@ pub mod Histories
 pub mod Replaying
 pub mod Standing
 pub mod States
-pub mod Storing

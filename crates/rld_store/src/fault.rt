@@ -1,4 +1,5 @@
 ghost use Rattle.std.specs.Prelude.{◌≡◌};
+ghost use Rattle.rld_store.specs.Stored.{record_fault};
 ghost use Rattle.rld_store.specs.declared.fault.StoreFault.TheVariants.{Damaged as damaged, Log as log_failed, Malformed as malformed, NoMemory as no_memory};
 
 use rld_books::ServerFault;
@@ -130,5 +131,16 @@ impl From<Damage> for StoreFault {
 
     fn from(damage: Damage) -> StoreFault {
         StoreFault::Damaged(damage)
+    }
+}
+
+impl From<StoreFault> for RecordFault {
+    ghost from_gives = { λ failed fault. fault ≡ record_fault failed };
+
+    fn from(failed: StoreFault) -> RecordFault {
+        match failed {
+            StoreFault::Log(LogFault::Unsynced) => RecordFault::Ended,
+            _ => RecordFault::Failed,
+        }
     }
 }

@@ -4,8 +4,6 @@
 //! on the disk, before and after each call. A crash at any call leaves the moves that were
 //! answered, in order, and of a batch that was not yet answered all moves or none. A log is one
 //! generation: a header, a snapshot of the books that it begins with, and the moves that followed.
-//! What turns and a running server need of a store is a `Recorder`, and a store is one
-//! (`specs/Stored.antt`).
 //!
 //! Read `specs/Generations.antt` first (what a log has), then `specs/Standing.antt` (what a store
 //! stands for). What is trusted of a file and of MD5 is in `specs/Premises.antt`.
@@ -20,9 +18,7 @@ mod part;
 mod parts;
 mod reading;
 mod recorded;
-mod recorder;
 mod store;
-mod stored;
 
 pub use beginning::counts_in;
 pub use fault::{Malformed, RecordFault, Refused, StoreFault};
@@ -30,5 +26,4 @@ pub use opening::read_frames;
 pub use part::Part;
 pub use parts::Parts;
 pub use recorded::Recorded;
-pub use recorder::Recorder;
 pub use store::{End, Opened, Store};

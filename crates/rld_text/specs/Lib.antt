@@ -1,5 +1,9 @@
+pub mod Accounts
 pub mod Build
 pub mod Json
+pub mod LineWords
+pub mod Links
+pub mod Listing
 pub mod Metrics
 pub mod Ready
 pub mod Recent

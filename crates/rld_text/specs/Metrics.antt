@@ -125,6 +125,26 @@ holdings totals =
     ++ (gauge (codes "radlimitd_accounts") (codes "Accounts that there are.") totals.accounts
     ++ gauge (codes "radlimitd_accounts_full") (codes "Accounts that have no free place.") totals.full))
 
+-- so many reservations or sessions are in this state
+unfoldable pub state_line : (state : List ℕ) → (number : ℕ) → List ℕ
+state_line state number =
+    codes "radlimitd_sessions{" ++ (label (codes "state") state ++ (codes "} " ++ (decimal number ++ codes "\n")))
+
+-- what holds a place, by its state, and what found none
+unfoldable pub states_text : Totals → List ℕ
+states_text totals =
+    head_of (codes "radlimitd_sessions") (codes "gauge")
+    (codes "What holds a place: reservations, and sessions that are live or stale.")
+    ++ (state_line (codes "reserved") totals.reserved
+    ++ (state_line (codes "live") totals.live
+    ++ (state_line (codes "stale") totals.stale
+    ++ sample (codes "counter") (codes "radlimitd_over_total")
+    (codes "Starts and Interim-Updates so far of sessions that found no place, and run all the same.") totals.over)))
+
+-- what is held
+unfoldable pub held_text : Totals → List ℕ
+held_text totals = holdings totals ++ states_text totals
+
 -- 1 if batches are being recorded, else 0
 abbrev pub recording_of : Recording → ℕ
 recording_of Recorded = 1
@@ -164,7 +184,7 @@ state_gauges clock_behind archive =
 
 unfoldable pub numbers_text : Look → List ℕ
 numbers_text look =
-    holdings look.totals
+    held_text look.totals
     ++ (writing look.era look.generation look.start (recording_of look.recording)
     ++ (state_gauges look.clock_behind look.archive
     ++ at_sockets (waiting_after 0 look.sockets.items) (dropped_after 0 look.sockets.items)))
@@ -191,6 +211,11 @@ sessions_head =
     head_of (codes "radlimitd_access_server_sessions") (codes "gauge")
     (codes "Sessions and reservations that an access server holds.")
 
+unfoldable pub reserved_head : List ℕ
+reserved_head =
+    head_of (codes "radlimitd_access_server_reserved") (codes "gauge")
+    (codes "Reservations among these: accepts whose session has not begun.")
+
 unfoldable pub silent_head : List ℕ
 silent_head =
     head_of (codes "radlimitd_access_server_silent_seconds") (codes "gauge")
@@ -209,6 +234,10 @@ abbrev pub sessions_line : AccessServerLook → List ℕ
 sessions_line server =
     server_line (codes "radlimitd_access_server_sessions{client=\"") server (plus server.reserved server.bound)
 
+abbrev pub reserved_line : AccessServerLook → List ℕ
+reserved_line server =
+    server_line (codes "radlimitd_access_server_reserved{client=\"") server server.reserved
+
 abbrev pub silent_line : (now : ℕ) → AccessServerLook → List ℕ
 silent_line now server =
     server_line (codes "radlimitd_access_server_silent_seconds{client=\"") server (now - server.last)
@@ -221,7 +250,8 @@ servers_number number =
 unfoldable pub servers_all : (now number : ℕ) → List AccessServerLook → List ℕ
 servers_all now number servers =
     servers_number number ++ (sessions_head ++ (flat_map sessions_line servers
-    ++ (silent_head ++ flat_map (silent_line now) servers)))
+    ++ (reserved_head ++ (flat_map reserved_line servers
+    ++ (silent_head ++ flat_map (silent_line now) servers)))))
 
 abbrev pub servers_text : Look → List ℕ
 servers_text look = servers_all look.now look.access_servers.number look.access_servers.first.items

@@ -105,8 +105,8 @@ archive_line logs octets =
 unfoldable pub recent_lines : Look → List ℕ
 recent_lines look =
     minute_line (latest_of look) (span_of look)
-    ++ (port_line (codes "auth:") look.counts (take 21 all_ends)
-    ++ (port_line (codes "acct:") look.counts (take 21 (drop 21 all_ends))
-    ++ (asks_if_any look.counts (drop 42 all_ends)
+    ++ (port_line (codes "auth:") look.counts (take 22 all_ends)
+    ++ (port_line (codes "acct:") look.counts (take 21 (drop 22 all_ends))
+    ++ (asks_if_any look.counts (drop 43 all_ends)
     ++ (full_lines 5 look.fullest.items
     ++ (sockets_if_any look.sockets.items ++ archive_line look.archive.logs look.archive.octets)))))

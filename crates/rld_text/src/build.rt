@@ -7,8 +7,9 @@ use rld_look::{Build, Proof};
 use rld_values::{push_hex, push_text};
 use std::alloc::AllocError;
 
-/// Writes a line of a build: its version, and whether it is proved.
-pub(crate) fn push_build_line(out: &mut Vec<u8>, build: &Build) -> Result<(), AllocError>
+/// Writes a line of a build: its version, and whether it is proved. It fails only if memory is refused; a part
+/// of the line may then have been written.
+pub fn push_build_line(out: &mut Vec<u8>, build: &Build) -> Result<(), AllocError>
     ensures { OnOk result (out.new.items ≡ out.old.items ++ build_line build.now) }
 {
     push_text(out, "radlimitd ")?;

@@ -1,8 +1,8 @@
 ghost use Rattle.std.specs.Prelude.{◌≡◌, ◌++◌, OnOk, codes};
-ghost use Rattle.rld_text.specs.Metrics.{at_sockets, gauge, holdings, numbers_text, recording_of, sample, state_gauges, writing};
+ghost use Rattle.rld_text.specs.Metrics.{at_sockets, gauge, held_text, holdings, numbers_text, recording_of, sample, state_gauges, state_line, states_text, writing};
 
 use crate::sums::{dropped, waiting};
-use crate::text::{Head, push_head};
+use crate::text::{Head, push_head, push_label};
 use rld_look::{ArchiveLook, Look, Recording, Totals};
 use rld_values::{push_decimal, push_text};
 use std::alloc::AllocError;
@@ -63,6 +63,65 @@ fn push_holdings(out: &mut Vec<u8>, totals: &Totals) -> Result<(), AllocError>
         totals.full,
     )?;
     Ok(())
+}
+
+/// Writes how many reservations or sessions are in a state.
+fn push_state_line(out: &mut Vec<u8>, state: &str, number: u64) -> Result<(), AllocError>
+    ensures { OnOk result (out.new.items ≡ out.old.items ++ state_line state.now number) }
+{
+    push_text(out, "radlimitd_sessions{")?;
+    push_label(out, "state", state)?;
+    push_text(out, "} ")?;
+    push_decimal(out, number)?;
+    push_text(out, "\n")?;
+    Ok(())
+}
+
+/// Writes what holds a place, by its state, and what found none.
+#[tactic(auto, unfolding(crate::specs::Metrics::states_text))]
+fn push_states(out: &mut Vec<u8>, totals: &Totals) -> Result<(), AllocError>
+    ensures { OnOk result (out.new.items ≡ out.old.items ++ states_text totals.now) }
+{
+    push_head(
+        out,
+        &Head {
+            name: "radlimitd_sessions",
+            kind: "gauge",
+            help: "What holds a place: reservations, and sessions that are live or stale.",
+        },
+    )?;
+    push_state_line(out, "reserved", totals.reserved)?;
+    push_state_line(out, "live", totals.live)?;
+    push_state_line(out, "stale", totals.stale)?;
+    push_over(out, totals.over)?;
+    Ok(())
+}
+
+/// Writes what is held, and what holds it.
+#[tactic(auto, unfolding(crate::specs::Metrics::held_text))]
+fn push_held(out: &mut Vec<u8>, totals: &Totals) -> Result<(), AllocError>
+    ensures { OnOk result (out.new.items ≡ out.old.items ++ held_text totals.now) }
+{
+    push_holdings(out, totals)?;
+    push_states(out, totals)?;
+    Ok(())
+}
+
+/// Writes how many Starts and Interim-Updates were of sessions that found no place.
+fn push_over(out: &mut Vec<u8>, over: u64) -> Result<(), AllocError>
+    ensures { OnOk result (out.new.items ≡ out.old.items ++ sample (codes "counter")
+        (codes "radlimitd_over_total")
+        (codes "Starts and Interim-Updates so far of sessions that found no place, and run all the same.") over) }
+{
+    push_sample(
+        out,
+        &Head {
+            name: "radlimitd_over_total",
+            kind: "counter",
+            help: "Starts and Interim-Updates so far of sessions that found no place, and run all the same.",
+        },
+        over,
+    )
 }
 
 /// 1 if batches are being recorded, else 0.
@@ -173,7 +232,7 @@ pub(crate) fn push_numbers(out: &mut Vec<u8>, look: &Look) -> Result<(), AllocEr
     ensures { OnOk result (out.new.items ≡ out.old.items ++ numbers_text look.entry.now) }
 {
     let sockets = look.sockets.as_slice();
-    push_holdings(out, &look.totals)?;
+    push_held(out, &look.totals)?;
     push_writing(
         out,
         look.era,

@@ -38,7 +38,7 @@ fn push_octets(out: &mut Vec<u8>, octets: &[u8]) -> Result<(), AllocError>
 /// Writes a string, in its quotes. Each octet is one character, whatever it is. It fails only if
 /// memory is refused.
 #[tactic(auto, unfolding(crate::specs::Json::json_string))]
-pub fn push_string(out: &mut Vec<u8>, octets: &[u8]) -> Result<(), AllocError>
+pub(crate) fn push_string(out: &mut Vec<u8>, octets: &[u8]) -> Result<(), AllocError>
     ensures { OnOk result (out.new.items ≡ out.old.items ++ json_string octets.now) }
 {
     push_text(out, "\"")?;
@@ -66,7 +66,11 @@ pub fn push_member_front(out: &mut Vec<u8>, name: &str) -> Result<(), AllocError
 
 /// Writes a member that is a number, after another one. It fails only if memory is refused.
 #[tactic(auto, unfolding(crate::specs::Json::number_member))]
-pub fn push_number_member(out: &mut Vec<u8>, name: &str, number: u64) -> Result<(), AllocError>
+pub(crate) fn push_number_member(
+    out: &mut Vec<u8>,
+    name: &str,
+    number: u64,
+) -> Result<(), AllocError>
     ensures { OnOk result (out.new.items ≡ out.old.items ++ number_member name.now number) }
 {
     push_member_front(out, name)?;

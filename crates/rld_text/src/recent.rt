@@ -124,7 +124,7 @@ fn push_rate(out: &mut Vec<u8>, count: u64) -> Result<(), AllocError>
 /// Writes the line of the authentication port.
 fn push_auth(alloc: Global, out: &mut Vec<u8>, counts: &Counts) -> Result<(), AllocError>
     ensures { OnOk result (out.new.items
-        ≡ out.old.items ++ port_line (codes "auth:") counts.now (take 21 all_ends)) }
+        ≡ out.old.items ++ port_line (codes "auth:") counts.now (take 22 all_ends)) }
 {
     let ends = End::all();
     push_port(alloc, out, "auth:", counts, End::of_auth(&ends))
@@ -133,7 +133,7 @@ fn push_auth(alloc: Global, out: &mut Vec<u8>, counts: &Counts) -> Result<(), Al
 /// Writes the line of the accounting port.
 fn push_acct(alloc: Global, out: &mut Vec<u8>, counts: &Counts) -> Result<(), AllocError>
     ensures { OnOk result (out.new.items
-        ≡ out.old.items ++ port_line (codes "acct:") counts.now (take 21 (drop 21 all_ends))) }
+        ≡ out.old.items ++ port_line (codes "acct:") counts.now (take 21 (drop 22 all_ends))) }
 {
     let ends = End::all();
     push_port(alloc, out, "acct:", counts, End::of_acct(&ends))
@@ -142,7 +142,7 @@ fn push_acct(alloc: Global, out: &mut Vec<u8>, counts: &Counts) -> Result<(), Al
 /// Writes the line of asks, if any came.
 fn push_asks(alloc: Global, out: &mut Vec<u8>, counts: &Counts) -> Result<(), AllocError>
     ensures { OnOk result (out.new.items
-        ≡ out.old.items ++ asks_if_any counts.now (drop 42 all_ends)) }
+        ≡ out.old.items ++ asks_if_any counts.now (drop 43 all_ends)) }
 {
     let ends = End::all();
     push_asks_if_any(alloc, out, counts, End::of_ask(&ends))

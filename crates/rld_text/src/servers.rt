@@ -2,7 +2,7 @@
 
 ghost use Rattle.std.specs.Prelude.{◌≡◌, ◌++◌, OnOk};
 ghost use Rattle.std.specs.List.{flat_map};
-ghost use Rattle.rld_text.specs.Metrics.{nas_value, server_line, servers_all, servers_number, servers_text, sessions_head, sessions_line, silent_head, silent_line};
+ghost use Rattle.rld_text.specs.Metrics.{nas_value, reserved_head, reserved_line, server_line, servers_all, servers_number, servers_text, sessions_head, sessions_line, silent_head, silent_line};
 
 use crate::gauges::push_gauge;
 use crate::text::{Head, push_escaped, push_head};
@@ -43,6 +43,8 @@ fn push_all(
     push_number(out, number)?;
     push_sessions_head(out)?;
     push_sessions(alloc, out, servers)?;
+    push_reserved_head(out)?;
+    push_reserved(alloc, out, servers)?;
     push_silent_head(out)?;
     push_silent(alloc, out, now, servers)?;
     Ok(())
@@ -104,6 +106,52 @@ fn push_sessions_line(
         "radlimitd_access_server_sessions{client=\"",
         server,
         number,
+    )
+}
+
+/// Writes the head of what is reserved of that.
+#[tactic(auto, unfolding(crate::specs::Metrics::reserved_head))]
+fn push_reserved_head(out: &mut Vec<u8>) -> Result<(), AllocError>
+    ensures { OnOk result (out.new.items ≡ out.old.items ++ reserved_head) }
+{
+    push_head(
+        out,
+        &Head {
+            name: "radlimitd_access_server_reserved",
+            kind: "gauge",
+            help: "Reservations among these: accepts whose session has not begun.",
+        },
+    )
+}
+
+/// Writes what is reserved at each access server.
+fn push_reserved(
+    alloc: Global,
+    out: &mut Vec<u8>,
+    servers: &[AccessServerLook],
+) -> Result<(), AllocError>
+    ensures { OnOk result (out.new.items ≡ out.old.items ++ flat_map reserved_line servers.now) }
+{
+    for server in servers {
+        push_reserved_line(alloc, out, server)?;
+    }
+    Ok(())
+}
+
+/// Writes what is reserved at an access server.
+fn push_reserved_line(
+    alloc: Global,
+    out: &mut Vec<u8>,
+    server: &AccessServerLook,
+) -> Result<(), AllocError>
+    ensures { OnOk result (out.new.items ≡ out.old.items ++ reserved_line server.now) }
+{
+    push_line(
+        alloc,
+        out,
+        "radlimitd_access_server_reserved{client=\"",
+        server,
+        server.reserved,
     )
 }
 

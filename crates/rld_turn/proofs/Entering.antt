@@ -1,6 +1,6 @@
 -- How a batch grows by datagrams.
 use Rattle.std.specs.declared.net.socket_addr.SocketAddr.{SocketAddr}
-use Rattle.std.proofs.Common.{◌≡◌, ℕ, ◌<◌, List, [], ◌∷◌, ◌++◌, length, take, length-append, append-nil, append_assoc, refl, sym, ap, subst, ◌∙◌, arith}
+use Rattle.std.proofs.Common.{◌≡◌, ℕ, ◌<◌, List, [], ◌∷◌, ◌++◌, length, take, length-append, append-nil, append_assoc, refl, suc, sym, ap, subst, ◌∙◌, arith}
 use Rattle.std.specs.Prelude.{Option, Some, None, Result, Ok, Err}
 use Rattle.std.specs.List.{AllByRecursion}
 use Rattle.rsl_accounts.specs.Configuration.{Configuration, client_number}
@@ -52,6 +52,14 @@ then_entered service port moment taken more [] others old mid new (none, same) a
     (subst (λ (b : List Move). AreEntered service port moment more others b new) same after)
 then_entered service port moment taken more (entry ∷ entries) others old mid new (one, rest, next, is, entered, before) after =
     (one, rest ++ more, next, ap (λ (t : List PeerDatagram). t ++ more) is, entered, then_entered service port moment rest more entries others next mid new before after)
+
+-- as many entries as datagrams
+pub as_many : (service : ServiceSeen) (port : Port) (moment : ℕ) (taken : List PeerDatagram)
+    (entries : List Entry) (old new : List Move) → AreEntered service port moment taken entries old new
+    → length taken ≡ length entries
+as_many service port moment taken [] old new (none, same) = ap length none
+as_many service port moment taken (entry ∷ entries) old new (one, rest, mid, is, entered, others) =
+    ap length is ∙ ap (λ (n : ℕ). suc n) (as_many service port moment rest entries mid new others)
 
 -- nothing was gathered yet
 pub none_gathered : (service : ServiceSeen) (port : Port) (moment : ℕ) (Tells : Type 0)

@@ -1,7 +1,7 @@
 -- How what was answered of a batch grows by a datagram.
-use Rattle.std.proofs.Common.{◌≡◌, ℕ, ◌+◌, Bool, true, false, List, [], ◌∷◌, ◌++◌, length, append-nil, append_assoc, refl, sym, ap, subst, ◌∙◌, arith}
+use Rattle.std.proofs.Common.{◌≡◌, ℕ, Bool, true, false, List, [], ◌∷◌, ◌++◌, length, append-nil, append_assoc, refl, sym, ap, subst, ◌∙◌}
 use Rattle.std.specs.Prelude.{Option, Some, None}
-use Rattle.rsl_accounts.specs.Configuration.{Configuration, client_number}
+use Rattle.rsl_accounts.specs.Configuration.{client_number}
 use Rattle.rsl_event.specs.Answer.{answer_to, said_to}
 use Rattle.rsl_event.specs.Detail.{detail_of}
 use Rattle.rsl_event.specs.MeaningKind.{kind_of}
@@ -15,21 +15,19 @@ use Rattle.rsl_shard.specs.declared.moved.Move.{Move}
 use Rattle.rld_books.specs.Server.{decision_in, decisions_of, replay}
 use Rattle.rld_turn.proofs.Deciding.{decided_at}
 use Rattle.rld_turn.proofs.Entering.{goes_on}
-use Rattle.rld_turn.proofs.Telling.{more_told, no_numbers, none_told, one_told, same_told}
+use Rattle.rld_turn.proofs.Telling.{more_told, none_told, same_told}
 use Rattle.rld_turn.specs.Answered.{Batch, HasAnswered}
-use Rattle.rld_turn.specs.Counted.{counted_end, ends_of, no_ends}
 use Rattle.rld_turn.specs.Ended.{IsEndOf, answer_if, decision_at, reply_of, sent_by, told_by, told_by_request}
 use Rattle.rld_turn.specs.Entered.{AreEntered, IsEntered, IsRequest}
 use Rattle.rld_turn.specs.Moves.{decided}
 use Rattle.rld_turn.specs.Recorded.{HasDecided, is_recorded}
 use Rattle.rsl_wire.specs.Packet.{packet_of}
 use Rattle.rld_turn.specs.Subject.{subject_in}
-use Rattle.rld_turn.specs.Told.{AreNumbersOf, HasTold, IsSentAs, Told, told_of}
+use Rattle.rld_turn.specs.Told.{HasTold, IsSentAs, Told, told_of}
 use Rattle.rld_turn.specs.Present.{ServiceSeen, meaning_of, origin_of, source_of}
 use Rattle.rld_turn.specs.Turned.{IsAnsweredBy, Turned, bare_told, request_told, NoneYet, ThenDropped, ThenRefused, ThenUnrecorded, ThenBare, ThenAnswered}
-use Rattle.rld_turn.specs.declared.ends.End.{End}
-use Rattle.rld_turn.specs.declared.ends.End.TheVariants as ends
-use Rattle.rld_turn.specs.declared.ends.Ends.{Ends}
+use Rattle.rld_turn.specs.declared.end.End.{End}
+use Rattle.rld_turn.specs.declared.end.End.TheVariants as ends
 use Rattle.rld_turn.specs.declared.origin.Origin.{Origin}
 use Rattle.rld_turn.specs.declared.subject.Subject.{Subject}
 use Rattle.rld_turn.specs.declared.request.Entry.{Entry}
@@ -39,7 +37,7 @@ use Rattle.rld_turn.specs.declared.request.Request.{Request}
 -- what was answered of a batch, and the entries that are left of it
 pub record AreAnswered (service : ServiceSeen) (port : Port) (Tells : Type 0) (moment : ℕ)
     (decisions : Option (List Decision)) (begun : List BooksSeen) (taken : List PeerDatagram)
-    (moves : List Move) (left : List Entry) (ends : Ends) (old new : List PeerDatagram)
+    (moves : List Move) (left : List Entry) (old new : List PeerDatagram)
     (knew knows : List Told → Type 0) : Type 0 where
   pub told : List Told
   pub done : List PeerDatagram
@@ -51,7 +49,6 @@ pub record AreAnswered (service : ServiceSeen) (port : Port) (Tells : Type 0) (m
   pub more_sent : Tells → new ≡ old ++ sent
   pub more_told : HasTold told knew knows
   pub turned : Turned service port moment (is_recorded decisions) begun told done batch sent
-  pub numbers : AreNumbersOf told ends.dropped ends.refused ends.unrecorded ends.answered ends.unsent
 
 -- the answer to what waits, with the decision of these books
 answered : (service : ServiceSeen) (port : Port) (moment : ℕ) (books : List BooksSeen) (one : PeerDatagram)
@@ -153,24 +150,13 @@ turned_more service port moment (Some found) begun told done rest batch next mov
     (answered service port moment (replay begun batch) one (Some moved) request (decision_at found place) end waits
     (decided_by service port moment begun batch next moves rest others found place moved decides last.at last.last left) ended))
 
--- what is told of an entry is counted
-entry_told : (config : Configuration) (entry : Entry) (end : End) (told : List Told) (e : Ends)
-    → AreNumbersOf told e.dropped e.refused e.unrecorded e.answered e.unsent
-    → AreNumbersOf (told ++ told_by config entry end ∷ [])
-    (counted_end end e).dropped (counted_end end e).refused (counted_end end e).unrecorded
-    (counted_end end e).answered (counted_end end e).unsent
-entry_told config (Dropped origin cause) end told e so = one_told (told_of config origin [] None None end) told e so
-entry_told config (Refused origin) end told e so = one_told (told_of config origin [] None None end) told e so
-entry_told config (Bare request) end told e so = one_told (told_by_request config request end) told e so
-entry_told config (Moved request place) end told e so = one_told (told_by_request config request end) told e so
-
 -- nothing more is left
 pub all_answered : (service : ServiceSeen) (port : Port) (Tells : Type 0) (decisions : Option (List Decision))
-    (entries : List Entry) (batch : Batch service port decisions entries) (left : List Entry) (e : Ends) (old new : List PeerDatagram)
+    (entries : List Entry) (batch : Batch service port decisions entries) (left : List Entry) (old new : List PeerDatagram)
     (knew knows : List Told → Type 0) → left ≡ []
-    → AreAnswered service port Tells batch.moment decisions batch.begun batch.taken batch.moves left e old new knew knows
-    → HasAnswered service port Tells decisions entries batch e old new knew knows
-all_answered service port Tells decisions entries batch left e old new knew knows none so =
+    → AreAnswered service port Tells batch.moment decisions batch.begun batch.taken batch.moves left old new knew knows
+    → HasAnswered service port Tells decisions entries batch old new knew knows
+all_answered service port Tells decisions entries batch left old new knew knows none so =
     let last = subst (λ (l : List Entry). AreEntered service port batch.moment so.rest l so.batch batch.moves) none so.entered in
     record {
       sent = so.sent;
@@ -182,41 +168,38 @@ all_answered service port Tells decisions entries batch left e old new knew know
           (sym (so.all ∙ ap (λ (t : List PeerDatagram). so.done ++ t) last.0 ∙ append-nil so.done))
           (subst (λ (b : List Move). Turned service port batch.moment (is_recorded decisions) batch.begun so.told so.done b so.sent)
           (sym last.1) so.turned);
-      numbers = so.numbers;
     }
 
 -- none is answered yet
 pub none_answered : (service : ServiceSeen) (port : Port) (Tells : Type 0) (decisions : Option (List Decision))
-    (entries : List Entry) (batch : Batch service port decisions entries) (e : Ends) (old : List PeerDatagram)
-    (knows : List Told → Type 0) → e ≡ no_ends
-    → AreAnswered service port Tells batch.moment decisions batch.begun batch.taken batch.moves entries e old old knows knows
-none_answered service port Tells decisions entries batch e old knows none =
-    subst (λ (n : Ends). AreAnswered service port Tells batch.moment decisions batch.begun batch.taken batch.moves entries n old old knows knows) (sym none) (record {
-      told = [];
-      done = [];
-      rest = batch.taken;
-      batch = [];
-      sent = [];
-      all = refl;
-      entered = batch.entered;
-      more_sent = λ tells. sym (append-nil old);
-      more_told = none_told knows;
-      turned = NoneYet;
-      numbers = no_numbers;
-    })
+    (entries : List Entry) (batch : Batch service port decisions entries) (old : List PeerDatagram)
+    (knows : List Told → Type 0)
+    → AreAnswered service port Tells batch.moment decisions batch.begun batch.taken batch.moves entries old old knows knows
+none_answered service port Tells decisions entries batch old knows = record {
+  told = [];
+  done = [];
+  rest = batch.taken;
+  batch = [];
+  sent = [];
+  all = refl;
+  entered = batch.entered;
+  more_sent = λ tells. sym (append-nil old);
+  more_told = none_told knows;
+  turned = NoneYet;
+}
 
 -- one more is answered
 pub one_answered : (service : ServiceSeen) (port : Port) (Tells_then Tells : Type 0) (moment : ℕ) (decisions : Option (List Decision))
     (begun : List BooksSeen) (taken : List PeerDatagram) (moves : List Move) (entry : Entry) (left others : List Entry)
-    (end : End) (e after : Ends) (old mid new : List PeerDatagram) (knew between knows : List Told → Type 0)
+    (end : End) (old mid new : List PeerDatagram) (knew between knows : List Told → Type 0)
     → left ≡ entry ∷ others → HasDecided begun moves decisions → IsEndOf decisions entry end
-    → after ≡ counted_end end e → (Tells → Tells_then) → (Tells → new ≡ mid ++ sent_by service decisions entry)
+    → (Tells → Tells_then) → (Tells → new ≡ mid ++ sent_by service decisions entry)
     → HasTold (told_by service.config entry end ∷ []) between knows
-    → AreAnswered service port Tells_then moment decisions begun taken moves left e old mid knew between
-    → AreAnswered service port Tells moment decisions begun taken moves others after old new knew knows
-one_answered service port Tells_then Tells moment decisions begun taken moves entry left others end e after old mid new knew between knows is decides ended counts before sends tells so =
+    → AreAnswered service port Tells_then moment decisions begun taken moves left old mid knew between
+    → AreAnswered service port Tells moment decisions begun taken moves others old new knew knows
+one_answered service port Tells_then Tells moment decisions begun taken moves entry left others end old mid new knew between knows is decides ended before sends tells so =
     let f = subst (λ (l : List Entry). AreEntered service port moment so.rest l so.batch moves) is so.entered in
-    subst (λ (n : Ends). AreAnswered service port Tells moment decisions begun taken moves others n old new knew knows) (sym counts) (record {
+    record {
       told = so.told ++ told_by service.config entry end ∷ [];
       done = so.done ++ f.0 ∷ [];
       rest = f.1;
@@ -228,15 +211,4 @@ one_answered service port Tells_then Tells moment decisions begun taken moves en
           ∙ append_assoc old so.sent (sent_by service decisions entry);
       more_told = more_told so.told (told_by service.config entry end ∷ []) knew between knows so.more_told tells;
       turned = turned_more service port moment decisions begun so.told so.done f.1 so.batch f.2 moves so.sent f.0 entry others end decides ended f.4 f.5 so.turned;
-      numbers = entry_told service.config entry end so.told e so.numbers;
-    })
-
--- ---- the counts of it
-
--- each end is counted
-pub one_end : (end : End) (e : Ends) → ends_of (counted_end end e) ≡ ends_of e + 1
-one_end (ends.Dropped cause) e = omega arith
-one_end ends.Refused e = omega arith
-one_end ends.Unrecorded e = omega arith
-one_end (ends.Answered said) e = omega arith
-one_end (ends.Unsent said) e = omega arith
+    }

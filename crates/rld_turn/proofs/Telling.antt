@@ -1,13 +1,9 @@
--- What a watcher was told, and how many ends of each kind.
-use Rattle.std.proofs.Common.{◌≡◌, ℕ, ◌+◌, Bool, true, false, cond, List, [], ◌∷◌, ◌++◌, Option, Some, None, append-nil, append_assoc, refl, sym, ap, subst, ◌∙◌, arith}
-use Rattle.std.proofs.lemmas.List.Sums.{sum_by-append, sum_by-cons}
+-- What a watcher was told.
+use Rattle.std.proofs.Common.{◌≡◌, ℕ, List, [], ◌∷◌, ◌++◌, Option, append-nil, append_assoc, sym, ap, subst, ◌∙◌}
 use Rattle.rsl_accounts.specs.Configuration.{Configuration, client_number}
 use Rattle.rsl_event.specs.declared.detail.Detail.{Detail}
-use Rattle.rld_turn.specs.Counted.{counted_end}
-use Rattle.rld_turn.specs.Told.{AreNumbersOf, HasTold, Told, is_answered, is_dropped, is_refused, is_unrecorded, is_unsent, number_of, told_as, told_of}
-use Rattle.rld_turn.specs.declared.ends.End.{End}
-use Rattle.rld_turn.specs.declared.ends.End.TheVariants as ends
-use Rattle.rld_turn.specs.declared.ends.Ends.{Ends}
+use Rattle.rld_turn.specs.Told.{HasTold, Told, told_as, told_of}
+use Rattle.rld_turn.specs.declared.end.End.{End}
 use Rattle.rld_turn.specs.declared.origin.Origin.{Origin}
 use Rattle.rld_turn.specs.declared.subject.Subject.{Subject}
 use Rattle.rld_turn.specs.declared.watch.Ended.{Ended}
@@ -41,83 +37,3 @@ same_told config told from origin octets bytes detail particular subject whom en
     ∙ ap (λ (d : Option Detail). told ++ told_of config origin bytes d subject end ∷ []) k
     ∙ ap (λ (s : Option Subject). told ++ told_of config origin bytes particular s end ∷ []) m
     ∙ ap (λ (e : End). told ++ told_of config origin bytes particular whom e ∷ []) l
-
--- ---- numbers
-
-zero_more : (n : ℕ) → n + 0 ≡ n
-zero_more n = omega arith
-
--- one end more is of a kind or not
-one_number : (test : End → Bool) (told : List Told) (one : Told) (b : Bool) → test one.end ≡ b
-    → number_of test (told ++ one ∷ []) ≡ number_of test told + cond b 1 0
-one_number test told one b is =
-    sum_by-append (λ (x : Told). cond (test x.end) 1 0) told (one ∷ [])
-    ∙ ap (λ (n : ℕ). number_of test told + n)
-    (sum_by-cons (λ (x : Told). cond (test x.end) 1 0) one [] ∙ zero_more (cond (test one.end) 1 0)
-    ∙ ap (λ (c : Bool). cond c 1 0) is)
-
-one_more : (test : End → Bool) (told : List Told) (one : Told) (n : ℕ) → test one.end ≡ true
-    → n ≡ number_of test told → n + 1 ≡ number_of test (told ++ one ∷ [])
-one_more test told one n is so = ap (λ (m : ℕ). m + 1) so ∙ sym (one_number test told one true is)
-
-none_more : (test : End → Bool) (told : List Told) (one : Told) (n : ℕ) → test one.end ≡ false
-    → n ≡ number_of test told → n ≡ number_of test (told ++ one ∷ [])
-none_more test told one n is so =
-    so ∙ sym (zero_more (number_of test told)) ∙ sym (one_number test told one false is)
-
--- no end yet
-pub no_numbers : AreNumbersOf [] 0 0 0 0 0
-no_numbers = record {
-  dropped = refl;
-  refused = refl;
-  unrecorded = refl;
-  answered = refl;
-  unsent = refl;
-}
-
--- an end that is told is counted
-pub one_told : (one : Told) (told : List Told) (e : Ends)
-    → AreNumbersOf told e.dropped e.refused e.unrecorded e.answered e.unsent
-    → AreNumbersOf (told ++ one ∷ [])
-    (counted_end one.end e).dropped (counted_end one.end e).refused (counted_end one.end e).unrecorded
-    (counted_end one.end e).answered (counted_end one.end e).unsent
-one_told one told e so = by one.end refl
-  where
-    by : (end : End) → one.end ≡ end → AreNumbersOf (told ++ one ∷ [])
-        (counted_end end e).dropped (counted_end end e).refused (counted_end end e).unrecorded
-        (counted_end end e).answered (counted_end end e).unsent
-    by (ends.Dropped cause) is = record {
-      dropped = one_more is_dropped told one e.dropped (ap is_dropped is) so.dropped;
-      refused = none_more is_refused told one e.refused (ap is_refused is) so.refused;
-      unrecorded = none_more is_unrecorded told one e.unrecorded (ap is_unrecorded is) so.unrecorded;
-      answered = none_more is_answered told one e.answered (ap is_answered is) so.answered;
-      unsent = none_more is_unsent told one e.unsent (ap is_unsent is) so.unsent;
-    }
-    by ends.Refused is = record {
-      dropped = none_more is_dropped told one e.dropped (ap is_dropped is) so.dropped;
-      refused = one_more is_refused told one e.refused (ap is_refused is) so.refused;
-      unrecorded = none_more is_unrecorded told one e.unrecorded (ap is_unrecorded is) so.unrecorded;
-      answered = none_more is_answered told one e.answered (ap is_answered is) so.answered;
-      unsent = none_more is_unsent told one e.unsent (ap is_unsent is) so.unsent;
-    }
-    by ends.Unrecorded is = record {
-      dropped = none_more is_dropped told one e.dropped (ap is_dropped is) so.dropped;
-      refused = none_more is_refused told one e.refused (ap is_refused is) so.refused;
-      unrecorded = one_more is_unrecorded told one e.unrecorded (ap is_unrecorded is) so.unrecorded;
-      answered = none_more is_answered told one e.answered (ap is_answered is) so.answered;
-      unsent = none_more is_unsent told one e.unsent (ap is_unsent is) so.unsent;
-    }
-    by (ends.Answered said) is = record {
-      dropped = none_more is_dropped told one e.dropped (ap is_dropped is) so.dropped;
-      refused = none_more is_refused told one e.refused (ap is_refused is) so.refused;
-      unrecorded = none_more is_unrecorded told one e.unrecorded (ap is_unrecorded is) so.unrecorded;
-      answered = one_more is_answered told one e.answered (ap is_answered is) so.answered;
-      unsent = none_more is_unsent told one e.unsent (ap is_unsent is) so.unsent;
-    }
-    by (ends.Unsent said) is = record {
-      dropped = none_more is_dropped told one e.dropped (ap is_dropped is) so.dropped;
-      refused = none_more is_refused told one e.refused (ap is_refused is) so.refused;
-      unrecorded = none_more is_unrecorded told one e.unrecorded (ap is_unrecorded is) so.unrecorded;
-      answered = none_more is_answered told one e.answered (ap is_answered is) so.answered;
-      unsent = one_more is_unsent told one e.unsent (ap is_unsent is) so.unsent;
-    }

@@ -6,10 +6,9 @@ use Rattle.rsl_shard.specs.Restep.{BooksSeen}
 use Rattle.rsl_shard.specs.declared.moved.Move.{Move}
 use Rattle.rld_turn.specs.Entered.{AreEntered}
 use Rattle.rld_turn.specs.Recorded.{HasDecided, is_recorded}
-use Rattle.rld_turn.specs.Told.{AreNumbersOf, HasTold, Told}
+use Rattle.rld_turn.specs.Told.{HasTold, Told}
 use Rattle.rld_turn.specs.Present.{ServiceSeen}
 use Rattle.rld_turn.specs.Turned.{Turned}
-use Rattle.rld_turn.specs.declared.ends.Ends.{Ends}
 use Rattle.rld_turn.specs.declared.peer_port.PeerDatagram.{PeerDatagram}
 use Rattle.rld_turn.specs.declared.request.Entry.{Entry}
 
@@ -26,7 +25,7 @@ pub record Batch (service : ServiceSeen) (port : Port) (decisions : Option (List
 -- they ended so, as a watcher has learned, and these were the sends, if the port reports them
 pub record HasAnswered (service : ServiceSeen) (port : Port) (Tells : Type 0)
     (decisions : Option (List Decision)) (entries : List Entry)
-    (batch : Batch service port decisions entries) (ends : Ends)
+    (batch : Batch service port decisions entries)
     (old new : List PeerDatagram) (knew knows : List Told → Type 0) : Type 0 where
   pub sent : List PeerDatagram
   pub told : List Told
@@ -34,5 +33,3 @@ pub record HasAnswered (service : ServiceSeen) (port : Port) (Tells : Type 0)
   pub more_told : HasTold told knew knows
   pub turned : Turned service port batch.moment (is_recorded decisions) batch.begun
       told batch.taken batch.moves sent
-  pub numbers : AreNumbersOf told
-      ends.dropped ends.refused ends.unrecorded ends.answered ends.unsent

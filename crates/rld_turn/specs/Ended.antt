@@ -11,8 +11,8 @@ use Rattle.rsl_wire.specs.declared.packet.WireFault.{WireFault}
 use Rattle.rld_turn.specs.Entered.{CanAnswer}
 use Rattle.rld_turn.specs.Told.{IsSentAs, Told, told_of}
 use Rattle.rld_turn.specs.Present.{ServiceSeen, peer_datagram}
-use Rattle.rld_turn.specs.declared.ends.End.{End}
-use Rattle.rld_turn.specs.declared.ends.End.TheVariants as ends
+use Rattle.rld_turn.specs.declared.end.End.{End}
+use Rattle.rld_turn.specs.declared.end.End.TheVariants as ends
 use Rattle.rld_turn.specs.declared.peer_port.PeerDatagram.{PeerDatagram}
 use Rattle.rld_turn.specs.declared.request.Entry.{Entry}
 use Rattle.rld_turn.specs.declared.request.Entry.TheVariants.{Dropped, Refused, Bare, Moved}

@@ -2,13 +2,10 @@ pub mod Present
 pub mod Received
 pub mod Moves
 pub mod Recorded
-pub mod Counted
 pub mod Subject
 pub mod Told
 pub mod Turned
-pub mod Served
 pub mod Entered
 pub mod Ended
 pub mod Answered
-pub mod Ticked
 pub mod StatusAnswer

@@ -1,10 +1,10 @@
 -- What a watcher learns of datagrams, if it reports that.
-use Rattle.std.specs.Prelude.{◌≡◌, ℕ, ⊤, ◌+◌, Bool, true, false, List, ◌++◌, count_by, Option, Some, None}
+use Rattle.std.specs.Prelude.{◌≡◌, ℕ, ⊤, ◌+◌, List, ◌++◌, Option, Some, None}
 use Rattle.rsl_accounts.specs.Configuration.{Configuration, client_number}
 use Rattle.rsl_event.specs.declared.detail.Detail.{Detail}
 use Rattle.rsl_event.specs.declared.words.Said.{Said}
-use Rattle.rld_turn.specs.declared.ends.End.{End}
-use Rattle.rld_turn.specs.declared.ends.End.TheVariants.{Dropped, Refused, Unrecorded, Answered, Unsent}
+use Rattle.rld_turn.specs.declared.end.End.{End}
+use Rattle.rld_turn.specs.declared.end.End.TheVariants.{Answered, Unsent}
 use Rattle.rld_turn.specs.declared.origin.Origin.{Origin}
 use Rattle.rld_turn.specs.declared.subject.Subject.{Subject}
 use Rattle.rld_turn.specs.declared.watch.Ended.{Ended}
@@ -56,37 +56,3 @@ abbrev pub IsSentAs : Said → End → Type 0
 IsSentAs said (Answered word) = word ≡ said
 IsSentAs said (Unsent word) = word ≡ said
 IsSentAs said _ = ⊥
-
--- how a datagram ended, without the cause
-abbrev pub is_dropped : End → Bool
-is_dropped (Dropped cause) = true
-is_dropped _ = false
-
-abbrev pub is_refused : End → Bool
-is_refused Refused = true
-is_refused _ = false
-
-abbrev pub is_unrecorded : End → Bool
-is_unrecorded Unrecorded = true
-is_unrecorded _ = false
-
-abbrev pub is_answered : End → Bool
-is_answered (Answered said) = true
-is_answered _ = false
-
-abbrev pub is_unsent : End → Bool
-is_unsent (Unsent said) = true
-is_unsent _ = false
-
--- the number of these datagrams with such an end
-abbrev pub number_of : (End → Bool) → List Told → ℕ
-number_of test told = count_by (λ (one : Told). test one.end) told
-
--- `d`, `r`, `u`, `a` and `f` of these datagrams were dropped, refused, unrecorded, answered and
--- unsent
-pub record AreNumbersOf (told : List Told) (d r u a f : ℕ) : Type 0 where
-  pub dropped : d ≡ number_of is_dropped told
-  pub refused : r ≡ number_of is_refused told
-  pub unrecorded : u ≡ number_of is_unrecorded told
-  pub answered : a ≡ number_of is_answered told
-  pub unsent : f ≡ number_of is_unsent told

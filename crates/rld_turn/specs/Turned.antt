@@ -1,7 +1,7 @@
 -- What is done with the datagrams of a turn: in the order in which they were taken, each is
 -- dropped, refused, unrecorded or answered, and nothing else is recorded or sent.
-use Rattle.std.specs.Prelude.{◌≡◌, ℕ, Bool, true, false, List, [], ◌∷◌, ◌++◌, Ok, Err, Option, Some, None}
-use Rattle.rsl_accounts.specs.Configuration.{Configuration, client_number}
+use Rattle.std.specs.Prelude.{◌≡◌, ℕ, ◌≤◌, Bool, true, false, List, [], ◌∷◌, ◌++◌, length, Ok, Err, Option, Some, None}
+use Rattle.rsl_accounts.specs.Configuration.{client_number}
 use Rattle.rsl_event.specs.Answer.{answer, said}
 use Rattle.rsl_event.specs.Detail.{detail_of}
 use Rattle.rsl_event.specs.declared.meaning.Dropped.{Dropped}
@@ -15,12 +15,11 @@ use Rattle.rld_books.specs.Server.{replay}
 use Rattle.rld_store.specs.Recorded.{RecordedSeen}
 use Rattle.rld_turn.specs.Moves.{decided, move_of}
 use Rattle.rld_turn.specs.Present.{ServiceSeen, meaning_of, origin_of, source_of}
-use Rattle.rld_turn.specs.Recorded.{IsOf, books_before, is_recorded, made}
+use Rattle.rld_turn.specs.Recorded.{IsOf, books_before, is_recorded}
 use Rattle.rld_turn.specs.Subject.{subject_in}
-use Rattle.rld_turn.specs.Told.{AreNumbersOf, HasTold, IsSentAs, Told, told_of}
-use Rattle.rld_turn.specs.declared.ends.End.{End}
-use Rattle.rld_turn.specs.declared.ends.End.TheVariants as ends
-use Rattle.rld_turn.specs.declared.ends.Ends.{Ends}
+use Rattle.rld_turn.specs.Told.{HasTold, IsSentAs, Told, told_of}
+use Rattle.rld_turn.specs.declared.end.End.{End}
+use Rattle.rld_turn.specs.declared.end.End.TheVariants as ends
 use Rattle.rld_turn.specs.declared.peer_port.PeerDatagram.{PeerDatagram}
 
 -- what a watcher learns of a datagram of which nothing but its origin is kept
@@ -97,51 +96,29 @@ pub data Turned (service : ServiceSeen) (port : Port) (moment : ℕ) (recorded :
       → IsAnsweredBy service port moment (replay begun batch) one (Some moved) reply end
       → Turned service port moment recorded begun (told ++ request_told service port one end ∷ []) (taken ++ one ∷ []) (batch ++ moved ∷ []) (sent ++ reply ∷ [])
 
--- the state at a time: the datagrams taken, the sends tried, the moments that the clock has shown,
--- if it reports them, and the books
+-- the state at a time: the datagrams taken, the sends tried, and the moments that the clock has
+-- shown, if it reports them
 pub record State : Type 0 where
   pub taken : List PeerDatagram
   pub sent : List PeerDatagram
   pub shown : Option (List ℕ)
-  pub books : List BooksSeen
 
-abbrev pub state_of : (taken sent : List PeerDatagram) → (shown : Option (List ℕ)) → List BooksSeen → State
-state_of taken sent shown books =
-    record { taken = taken; sent = sent; shown = shown; books = books }
-
--- A turn: the clock is read once, and what was taken since ended so, as the watcher has learned.
--- The moves of the batch are recorded, all or none, after the earlier ones.
-pub record HasTurned (service : ServiceSeen) (port : Port) (ends : Ends) (old new : State)
-    (knew knows : List Told → Type 0) (stood stands : Configuration → List BooksSeen → List Move → Type 0) : Type 0 where
-  pub taken : List PeerDatagram
-  pub batch : List Move
-  pub sent : List PeerDatagram
-  pub told : List Told
-  pub moment : ℕ
-  pub recorded : Bool
-  pub more_taken : new.taken ≡ old.taken ++ taken
-  pub more_sent : new.sent ≡ old.sent ++ sent
-  pub more_shown : HasShown (moment ∷ []) old.shown new.shown
-  pub more_told : HasTold told knew knows
-  pub books : new.books ≡ replay old.books (made recorded batch)
-  pub history : (config : Configuration) (opening : List BooksSeen) (moves : List Move)
-      → stood config opening moves → stands config opening (moves ++ made recorded batch)
-  pub turned : Turned service port moment recorded old.books told taken batch sent
-  pub numbers : AreNumbersOf told
-      ends.dropped ends.refused ends.unrecorded ends.answered ends.unsent
+abbrev pub state_of : (taken sent : List PeerDatagram) → (shown : Option (List ℕ)) → State
+state_of taken sent shown = record { taken = taken; sent = sent; shown = shown }
 
 -- A turn by what it gives as recorded, whatever its port and its recorder are: the clock is read
--- once, and datagrams ended so, as the watcher has learned. What was recorded is the batch with the
--- moves of these datagrams, in order. A datagram with a move is answered only if it is recorded, by
--- the books before the batch and the moves before its own. They are what was taken since, and what
--- was sent for them, if the port reports that.
-pub record IsDecidedBy (service : ServiceSeen) (port : Port) (Tells : Type 0) (ends : Ends)
+-- once, and at most 64 datagrams ended so, as the watcher has learned. What was recorded is the batch
+-- with the moves of these datagrams, in order. A datagram with a move is answered only if it is
+-- recorded, by the books before the batch and the moves before its own. They are what was taken
+-- since, and what was sent for them, if the port reports that.
+pub record IsDecidedBy (service : ServiceSeen) (port : Port) (Tells : Type 0)
     (recorded : Option RecordedSeen) (old new : State) (knew knows : List Told → Type 0) : Type 0 where
   pub taken : List PeerDatagram
   pub batch : List Move
   pub sent : List PeerDatagram
   pub told : List Told
   pub moment : ℕ
+  pub few : length taken ≤ 64
   pub more_taken : Tells → new.taken ≡ old.taken ++ taken
   pub more_sent : Tells → new.sent ≡ old.sent ++ sent
   pub more_shown : HasShown (moment ∷ []) old.shown new.shown
@@ -149,5 +126,3 @@ pub record IsDecidedBy (service : ServiceSeen) (port : Port) (Tells : Type 0) (e
   pub whole : IsOf batch recorded
   pub turned : Turned service port moment (is_recorded recorded) (books_before recorded)
       told taken batch sent
-  pub numbers : AreNumbersOf told
-      ends.dropped ends.refused ends.unrecorded ends.answered ends.unsent

@@ -1,10 +1,10 @@
-ghost use Rattle.std.specs.Prelude.{◌≡◌, ◌+◌, ◌≤◌, ◌<◌, [], ◌∷◌, ◌++◌, length, true, Ok, Option, Some, None};
+//! The second half of a turn: what was taken is answered.
+
+ghost use Rattle.std.specs.Prelude.{◌≡◌, ◌≤◌, ◌<◌, [], ◌∷◌, ◌++◌, length, true, Ok, Option, Some, None};
 ghost use Rattle.std.specs.List.{AllByRecursion};
-ghost use Rattle.std.specs.VecDeque.{deque_capacity};
 ghost use Rattle.rsl_accounts.specs.Configuration.{client_number};
 ghost use Rattle.rsl_event.specs.Answer.{said_to};
 ghost use Rattle.rld_turn.specs.Answered.{Batch, HasAnswered};
-ghost use Rattle.rld_turn.specs.Counted.{ends_of};
 ghost use Rattle.rld_turn.specs.Ended.{
   CanEnd,
   IsEndOf,
@@ -19,40 +19,35 @@ ghost use Rattle.rld_turn.specs.Entered.{CanAnswer};
 ghost use Rattle.rld_turn.specs.Present.{peer_datagram, service_of};
 ghost use Rattle.rld_turn.specs.Recorded.{decisions_in};
 ghost use Rattle.rld_turn.specs.Told.{HasTold, IsSentAs, told_of};
-ghost use Rattle.rld_turn.specs.declared.ends.End.TheVariants as ends;
+ghost use Rattle.rld_turn.specs.declared.end.End.TheVariants as ends;
 
-use crate::ends::{End, Ends};
+use crate::end::End;
 use crate::origin::Origin;
-use crate::outcome::Outcome;
 use crate::peer_port::PeerPort;
+use crate::present::Present;
+use crate::receiver::Receiver;
 use crate::request::{Entry, Request};
 use crate::room::{Room, Rooms};
-use crate::turner::Turner;
 use crate::watch::{Ended, Watch};
-use rld_store::Recorded;
+use rld_store::{RecordFault, Recorded};
 use rsl_event::{Decision, Detail, Said, reply_to};
 use rsl_port::PortFault;
 use rsl_wire::read;
-use std::collections::VecDeque;
 use std::net::SocketAddr;
 
-impl Turner<'_> {
-    /// Answers the datagrams of a batch with this outcome, in the order in which they were taken,
-    /// and notes how each ended.
-    pub(crate) fn answer_each<P: PeerPort, W: Watch>(
-        &self,
+impl Receiver {
+    /// Answers the datagrams that were gathered, in the order in which they were taken, and notes how each ended.
+    /// Their moves are recorded so, or they have none. One that has a move is answered only if they are recorded.
+    pub fn answer<P: PeerPort, W: Watch>(
+        &mut self,
+        present: &Present<'_>,
+        recorded: &Result<Option<Recorded>, RecordFault>,
         datagrams: &mut P,
         watch: &mut W,
-        outcome: &Outcome,
-        queue: &mut VecDeque<Entry>,
-        rooms: &mut Rooms,
-    ) -> Ends
-        requires can { AllByRecursion (CanEnd self.now.present.config.now (decisions_in outcome.now))
-            queue.old.items }
-        requires few { length queue.old.items ≤ 64 }
-        ensures all { queue.new.items ≡ [] }
-        ensures capacity { deque_capacity queue.new ≡ deque_capacity queue.old }
-        ensures count { ends_of result ≡ length queue.old.items }
+    )
+        requires can { AllByRecursion (CanEnd present.now.config.now (decisions_in recorded.now))
+            self.old.queue.items }
+        ensures same { self.new.port ≡ self.old.port }
         ensures contents { P.contents datagrams.new ≡ P.contents datagrams.old }
         ensures telling { P.tells datagrams.new ≡ true → P.tells datagrams.old ≡ true }
         ensures taken { P.tells datagrams.new ≡ true →
@@ -62,31 +57,31 @@ impl Turner<'_> {
         ensures down { P.tells datagrams.new ≡ true →
             P.is_down datagrams.new ≡ P.is_down datagrams.old }
         ensures turns { W.turns watch.new ≡ W.turns watch.old }
-        ensures answered { (batch : Batch (service_of self.now.present) self.now.port
-            (decisions_in outcome.now) queue.old.items) →
-            HasAnswered (service_of self.now.present) self.now.port (P.tells datagrams.new ≡ true)
-            (decisions_in outcome.now) queue.old.items batch result
+        ensures answered { (batch : Batch (service_of present.now) self.old.port
+            (decisions_in recorded.now) self.old.queue.items) →
+            HasAnswered (service_of present.now) self.old.port (P.tells datagrams.new ≡ true)
+            (decisions_in recorded.now) self.old.queue.items batch
             (P.sent datagrams.old) (P.sent datagrams.new)
             (W.knows watch.old) (W.knows watch.new) }
     {
-        let mut ends = Ends::new();
-        while let Some(entry) = queue.pop_front() {
-            ends.count(self.end(entry, outcome, datagrams, watch, rooms));
+        while let Some(entry) = self.queue.pop_front() {
+            present.end(entry, recorded, datagrams, watch, &mut self.rooms);
         }
-        ends
     }
+}
 
-    /// Ends an entry of a batch with this outcome, and notes how.
+impl Present<'_> {
+    /// Ends an entry of a batch that is recorded so, and notes how.
     fn end<P: PeerPort, W: Watch>(
         &self,
         entry: Entry,
-        outcome: &Outcome,
+        recorded: &Result<Option<Recorded>, RecordFault>,
         datagrams: &mut P,
         watch: &mut W,
         rooms: &mut Rooms,
     ) -> End
-        requires can { CanEnd self.now.present.config.now (decisions_in outcome.now) entry }
-        ensures end { IsEndOf (decisions_in outcome.now) entry result }
+        requires can { CanEnd self.now.config.now (decisions_in recorded.now) entry }
+        ensures end { IsEndOf (decisions_in recorded.now) entry result }
         ensures contents { P.contents datagrams.new ≡ P.contents datagrams.old }
         ensures telling { P.tells datagrams.new ≡ true → P.tells datagrams.old ≡ true }
         ensures taken { P.tells datagrams.new ≡ true →
@@ -96,9 +91,9 @@ impl Turner<'_> {
         ensures down { P.tells datagrams.new ≡ true →
             P.is_down datagrams.new ≡ P.is_down datagrams.old }
         ensures sent { P.tells datagrams.new ≡ true → P.sent datagrams.new ≡ P.sent datagrams.old
-            ++ sent_by (service_of self.now.present) (decisions_in outcome.now) entry }
+            ++ sent_by (service_of self.now) (decisions_in recorded.now) entry }
         ensures turns { W.turns watch.new ≡ W.turns watch.old }
-        ensures told { HasTold (told_by self.now.present.config.now entry result ∷ [])
+        ensures told { HasTold (told_by self.now.config.now entry result ∷ [])
             (W.knows watch.old) (W.knows watch.new) }
     {
         match entry {
@@ -111,15 +106,15 @@ impl Turner<'_> {
                 End::Refused
             }
             Entry::Bare(request) => self.send(request, Decision::Done, datagrams, watch, rooms),
-            Entry::Moved { request, place } => match outcome {
-                Outcome::Recorded(recorded) => self.send(
+            Entry::Moved { request, place } => match recorded {
+                Ok(Some(recorded)) => self.send(
                     request,
                     decision_at(recorded, place),
                     datagrams,
                     watch,
                     rooms,
                 ),
-                Outcome::Nothing | Outcome::Failed | Outcome::Ended => {
+                Ok(None) | Err(_) => {
                     self.tell_request(&request, End::Unrecorded, watch);
                     End::Unrecorded
                 }
@@ -130,12 +125,12 @@ impl Turner<'_> {
     /// Notes the end of a datagram of which nothing but its origin was kept.
     fn tell_bare<W: Watch>(&self, origin: Origin, end: End, watch: &mut W)
         ensures turns { W.turns watch.new ≡ W.turns watch.old }
-        ensures told { HasTold (told_of self.now.present.config.now origin [] None None end ∷ [])
+        ensures told { HasTold (told_of self.now.config.now origin [] None None end ∷ [])
             (W.knows watch.old) (W.knows watch.new) }
     {
         let ended = Ended {
             origin,
-            client: self.present.config.client(origin.source.address),
+            client: self.config.client(origin.source.address),
             octets: &[],
             detail: None,
             subject: None,
@@ -146,9 +141,9 @@ impl Turner<'_> {
 
     /// Notes the end of a request that is not answered.
     fn tell_request<W: Watch>(&self, request: &Request, end: End, watch: &mut W)
-        requires { CanAnswer self.now.present.config.now request.now }
+        requires { CanAnswer self.now.config.now request.now }
         ensures turns { W.turns watch.new ≡ W.turns watch.old }
-        ensures told { HasTold (told_by_request self.now.present.config.now request.now end ∷ [])
+        ensures told { HasTold (told_by_request self.now.config.now request.now end ∷ [])
             (W.knows watch.old) (W.knows watch.new) }
     {
         let ended = Ended {
@@ -164,10 +159,10 @@ impl Turner<'_> {
 
     /// Notes how a datagram ended, with the client that has the address of its source.
     fn tell<W: Watch>(&self, ended: Ended<'_>, watch: &mut W)
-        requires { client_number self.now.present.config.now ended.origin.source.address
+        requires { client_number self.now.config.now ended.origin.source.address
             ≡ ended.client }
         ensures turns { W.turns watch.new ≡ W.turns watch.old }
-        ensures told { HasTold (told_of self.now.present.config.now ended.entry.origin
+        ensures told { HasTold (told_of self.now.config.now ended.entry.origin
             ended.entry.octets.now ended.entry.detail ended.entry.subject ended.entry.end ∷ [])
             (W.knows watch.old) (W.knows watch.new) }
     {
@@ -183,7 +178,7 @@ impl Turner<'_> {
         watch: &mut W,
         rooms: &mut Rooms,
     ) -> End
-        requires can { CanAnswer self.now.present.config.now request }
+        requires can { CanAnswer self.now.config.now request }
         ensures end { IsSentAs (said_to request.kind decision) result }
         ensures contents { P.contents datagrams.new ≡ P.contents datagrams.old }
         ensures telling { P.tells datagrams.new ≡ true → P.tells datagrams.old ≡ true }
@@ -194,9 +189,9 @@ impl Turner<'_> {
         ensures down { P.tells datagrams.new ≡ true →
             P.is_down datagrams.new ≡ P.is_down datagrams.old }
         ensures sent { P.tells datagrams.new ≡ true → P.sent datagrams.new ≡ P.sent datagrams.old
-            ++ reply_of (service_of self.now.present) request decision ∷ [] }
+            ++ reply_of (service_of self.now) request decision ∷ [] }
         ensures turns { W.turns watch.new ≡ W.turns watch.old }
-        ensures told { HasTold (told_by_request self.now.present.config.now request result ∷ [])
+        ensures told { HasTold (told_by_request self.now.config.now request result ∷ [])
             (W.knows watch.old) (W.knows watch.new) }
     {
         let Request {
@@ -213,8 +208,8 @@ impl Turner<'_> {
                 &packet,
                 client,
                 kind,
-                self.present.config,
-                self.present.boot,
+                self.config,
+                self.boot,
                 decision,
                 draft,
             ),

@@ -1,101 +1,121 @@
-ghost use Rattle.std.specs.Prelude.{◌≡◌, ◌+◌, ◌*◌, ◌≤◌, ◌<◌, [], ◌∷◌, ◌++◌, min, length, take, true, false};
-ghost use Rattle.std.specs.VecDeque.{deque_capacity};
+//! The first half of a turn: what waits at a port is taken.
+
+ghost use Rattle.std.specs.Prelude.{◌≡◌, ◌≤◌, min, length, true, is_err};
 ghost use Rattle.rsl_event.specs.Prepared.{HasAccount, HasOwnAct};
 ghost use Rattle.rld_turn.specs.Entered.{HasAdded, HasGathered, HasPushed, IsEntered};
 ghost use Rattle.rld_turn.specs.Moves.{in_log};
 ghost use Rattle.rld_turn.specs.Present.{peer_datagram, service_of};
-ghost use Rattle.rld_turn.specs.Recorded.{is_down, is_ended};
 
-use crate::ends::Ending;
 use crate::peer_port::PeerPort;
-use crate::receiver::MAX_BATCH;
+use crate::present::Present;
+use crate::receiver::{MAX_BATCH, Receiver};
 use crate::request::{Entry, Request};
 use crate::room::Rooms;
-use crate::turner::Turner;
 use rsl_accounts::Config;
-use rsl_event::{Dropped, Meaning, prepare_in_detail};
+use rsl_event::{Dropped, Meaning, Port, prepare_in_detail};
 use rsl_port::PortFault;
 use rsl_shard::{Move, Moves};
-use std::collections::VecDeque;
 use std::net::SocketAddr;
 
-impl Turner<'_> {
-    /// Takes what waits at a port, without waiting for more, into a batch: at most 64 datagrams.
-    pub(crate) fn gather<P: PeerPort>(
-        &self,
+/// What was taken in a turn.
+#[derive(Drop)]
+pub struct Gathered {
+    /// The moves of its datagrams, in the order in which they were taken.
+    pub moves: Vec<Move>,
+    /// The fault of the port, if it failed to give a datagram.
+    pub port: Result<(), PortFault>,
+}
+
+/// A datagram that came from a peer to a port at a moment.
+#[derive(Clone, Copy)]
+struct Arrival<'d> {
+    port: Port,
+    moment: u64,
+    peer: SocketAddr,
+    datagram: &'d [u8],
+}
+
+impl Receiver {
+    /// Takes what waits at a port, without waiting for more: at most 64 datagrams of up to 4,096 octets. They wait
+    /// for their answers, and what waited before is forgotten. Gives the moves of those that are neither dropped nor
+    /// refused memory, each at this moment.
+    pub fn gather<P: PeerPort>(
+        &mut self,
+        present: &Present<'_>,
         moment: u64,
         datagrams: &mut P,
-        buffer: &mut [u8],
-        rooms: &mut Rooms,
-        batch: &mut Vec<Move>,
-        queue: &mut VecDeque<Entry>,
-    ) -> Ending
-        requires no_moves { batch.old.items ≡ [] }
-        requires no_entries { queue.old.items ≡ [] }
-        requires room { 64 ≤ deque_capacity queue.old }
-        ensures capacity { deque_capacity queue.new ≡ deque_capacity queue.old }
-        ensures few { length queue.new.items ≤ 64 }
+    ) -> Gathered
+        ensures same { self.new.port ≡ self.old.port }
+        ensures few { length self.new.queue.items ≤ 64 }
         ensures contents { P.contents datagrams.new ≡ P.contents datagrams.old }
         ensures telling { P.tells datagrams.new ≡ true → P.tells datagrams.old ≡ true }
-        ensures gathered { HasGathered (service_of self.now.present) self.now.port
-            moment (P.tells datagrams.new ≡ true)
-            (P.taken datagrams.old) (P.taken datagrams.new) queue.new.items batch.new.items }
+        ensures gathered { HasGathered (service_of present.now) self.old.port moment
+            (P.tells datagrams.new ≡ true) (P.taken datagrams.old) (P.taken datagrams.new)
+            self.new.queue.items result.moves.items }
         ensures sent { P.tells datagrams.new ≡ true → P.sent datagrams.new ≡ P.sent datagrams.old }
         ensures room { P.tells datagrams.new ≡ true →
-            min (P.room datagrams.old) (length buffer.old) ≤ P.room datagrams.new }
-        ensures down { P.tells datagrams.new ≡ true → P.is_down datagrams.new ≡ is_down result }
-        ensures goes_on { is_ended result ≡ false }
+            min (P.room datagrams.old) 4096 ≤ P.room datagrams.new }
+        ensures down { P.tells datagrams.new ≡ true → P.is_down datagrams.new ≡ is_err result.port }
     {
+        let Receiver {
+            alloc,
+            port,
+            buffer,
+            queue,
+            rooms,
+        } = self;
+        let buffer = buffer.as_mut_slice();
+        let mut moves = Vec::new(*alloc);
+        queue.clear();
         for _ in 0..MAX_BATCH {
             match datagrams.receive(buffer) {
                 Ok(Some((len, peer))) => {
-                    let entry = self.enter(moment, peer, buffer, len, rooms, batch);
+                    let arrival = Arrival {
+                        port: *port,
+                        moment,
+                        peer,
+                        datagram: &buffer[..len],
+                    };
+                    let entry = present.enter(arrival, rooms, &mut moves);
                     queue.push_back_reserved(entry);
                 }
-                Ok(None) => return Ending::Open,
-                Err(PortFault) => return Ending::Down,
+                Ok(None) => break,
+                Err(fault) => {
+                    return Gathered {
+                        moves,
+                        port: Err(fault),
+                    };
+                }
             }
         }
-        Ending::Open
+        Gathered {
+            moves,
+            port: Ok(()),
+        }
     }
+}
 
-    /// The entry of the datagram at the start of a buffer.
-    fn enter(
-        &self,
-        moment: u64,
-        peer: SocketAddr,
-        buffer: &[u8],
-        len: usize,
-        rooms: &mut Rooms,
-        batch: &mut Vec<Move>,
-    ) -> Entry
-        requires { len ≤ length buffer.now }
-        ensures { IsEntered (service_of self.now.present) self.now.port moment
-            (peer_datagram peer (take len buffer.now)) result batch.old.items batch.new.items }
-    {
-        self.entry(moment, peer, &buffer[..len], rooms, batch)
-    }
-
+impl Present<'_> {
     /// The entry of a datagram, whose move, if it has one, becomes the last of the batch. Room for
     /// its answer is allocated here.
-    fn entry(
-        &self,
-        moment: u64,
-        peer: SocketAddr,
-        datagram: &[u8],
-        rooms: &mut Rooms,
-        batch: &mut Vec<Move>,
-    ) -> Entry
-        ensures { IsEntered (service_of self.now.present) self.now.port moment
-            (peer_datagram peer datagram.now) result batch.old.items batch.new.items }
+    fn enter(&self, arrival: Arrival<'_>, rooms: &mut Rooms, batch: &mut Vec<Move>) -> Entry
+        ensures { IsEntered (service_of self.now) arrival.entry.port arrival.entry.moment
+            (peer_datagram arrival.entry.peer arrival.entry.datagram.now) result
+            batch.old.items batch.new.items }
     {
-        let origin = self.present.origin(peer);
-        let config = self.present.config;
+        let Arrival {
+            port,
+            moment,
+            peer,
+            datagram,
+        } = arrival;
+        let origin = self.origin(peer);
+        let alloc = rooms.alloc;
         let detailed = match prepare_in_detail(
-            self.alloc,
-            config,
-            self.present.boot,
-            self.port,
+            alloc,
+            self.config,
+            self.boot,
+            port,
             origin.source,
             datagram,
         ) {
@@ -104,7 +124,13 @@ impl Turner<'_> {
             Err(cause) => return Entry::Dropped { origin, cause },
         };
         match Request::of(rooms.take(), origin, datagram, &detailed) {
-            Ok(request) => add(config, moment, detailed.prepared.meaning, request, batch),
+            Ok(request) => add(
+                self.config,
+                moment,
+                detailed.prepared.meaning,
+                request,
+                batch,
+            ),
             Err(_) => Entry::Refused(origin),
         }
     }

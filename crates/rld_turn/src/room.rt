@@ -11,7 +11,7 @@ pub(crate) struct Room {
 /// The rooms that no request uses.
 #[derive(Drop)]
 pub(crate) struct Rooms {
-    alloc: Global,
+    pub(crate) alloc: Global,
     free: Vec<Room>,
 }
 

@@ -1,6 +1,6 @@
 //! Watchers, which learn how datagrams ended.
 
-use crate::ends::End;
+use crate::end::End;
 use crate::origin::Origin;
 use crate::subject::Subject;
 use rsl_event::Detail;

@@ -33,8 +33,8 @@ use Rattle.rld_turn.specs.Subject.{subject_in}
 use Rattle.rld_turn.specs.Told.{IsSentAs, Told}
 use Rattle.rld_turn.specs.declared.peer_port.PeerDatagram.{PeerDatagram}
 use Rattle.rld_turn.specs.Turned.{Turned, bare_told, request_told, NoneYet, ThenDropped, ThenRefused, ThenUnrecorded, ThenBare, ThenAnswered}
-use Rattle.rld_turn.specs.declared.ends.End.{End as TurnEnd}
-use Rattle.rld_turn.specs.declared.ends.End.TheVariants as ends
+use Rattle.rld_turn.specs.declared.end.End.{End as TurnEnd}
+use Rattle.rld_turn.specs.declared.end.End.TheVariants as ends
 use Rattle.rld_watch.proofs.Meaning.{IsAccess, OfAcct, OfAuth, acct_meaning, auth_meaning}
 use Rattle.rld_watch.specs.Ending.{acct_answer, acct_drop, ask_answer, ask_reject, auth_answer, auth_drop, end_at, is_nobody, port_of, status_end, status_in}
 use Rattle.rld_watch.specs.declared.gate.Gate.{Gate}
@@ -112,6 +112,7 @@ rejected service one (Some causes.UnknownAccount) means is holds = record { mean
 rejected service one (Some causes.WrongPassword) means is holds = record { means = means; is_cause = is }
 rejected service one (Some causes.DisabledAccount) means is holds = record { means = means; is_cause = is }
 rejected service one (Some causes.NoPassword) means is holds = record { means = means; is_cause = is }
+rejected service one (Some causes.UncheckedCredential) means is holds = record { means = means; is_cause = is }
 
 -- an ask is accepted, or finds no place
 asked : (service : ServiceSeen) (one : PeerDatagram) (cause : Option RejectCause) (account : ℕ) (key : Key) (nas : Nas) (station : Option (List ℕ)) (decision : Decision)
@@ -200,6 +201,7 @@ ask_rejected service one (Some causes.UnknownAccount) means is = record { means 
 ask_rejected service one (Some causes.WrongPassword) means is = tt
 ask_rejected service one (Some causes.DisabledAccount) means is = record { means = means; is_cause = is }
 ask_rejected service one (Some causes.NoPassword) means is = tt
+ask_rejected service one (Some causes.UncheckedCredential) means is = tt
 
 -- and one that the books decide on
 ask_decided : (service : ServiceSeen) (one : PeerDatagram) (cause : Option RejectCause) (account : ℕ) (key : Key) (nas : Nas) (station : Option (List ℕ)) (decision : Decision)

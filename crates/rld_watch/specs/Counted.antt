@@ -3,9 +3,16 @@ use Rattle.std.specs.Prelude.{ℕ, ◌==◌, Bool, true, false, List, length, op
 use Rattle.rld_counts.specs.Cell.{CellSeen, HasCounted, without_clients}
 use Rattle.rld_counts.specs.declared.end.End.{End}
 use Rattle.rld_counts.specs.declared.ended.Ended.{Ended}
-use Rattle.rld_turn.specs.Told.{Told, is_answered}
+use Rattle.rld_turn.specs.Told.{Told}
+use Rattle.rld_turn.specs.declared.end.End.{End as TurnEnd}
+use Rattle.rld_turn.specs.declared.end.End.TheVariants.{Answered}
 use Rattle.rld_watch.specs.Ending.{end_at}
 use Rattle.rld_watch.specs.declared.gate.Gate.{Gate}
+
+-- whether an answer was sent
+abbrev pub is_answered : TurnEnd → Bool
+is_answered (Answered said) = true
+is_answered _ = false
 
 -- an answer's time counts if the answer was sent
 abbrev pub time_if : (is_answered : Bool) → (micros : Option ℕ) → Option ℕ

@@ -22,8 +22,8 @@ use Rattle.rld_counts.specs.declared.auth_end.AuthEnd.TheVariants as auth
 use Rattle.rld_counts.specs.declared.end.End.{End}
 use Rattle.rld_counts.specs.declared.end.End.TheVariants.{Auth, Acct, Ask}
 use Rattle.rld_turn.specs.Told.{Told}
-use Rattle.rld_turn.specs.declared.ends.End.{End as TurnEnd}
-use Rattle.rld_turn.specs.declared.ends.End.TheVariants as ends
+use Rattle.rld_turn.specs.declared.end.End.{End as TurnEnd}
+use Rattle.rld_turn.specs.declared.end.End.TheVariants as ends
 use Rattle.rld_turn.specs.declared.subject.Subject.{Subject}
 use Rattle.rld_turn.specs.declared.subject.Subject.TheVariants as subjects
 use Rattle.rld_watch.specs.declared.gate.Gate.{Gate}
@@ -57,6 +57,7 @@ reject_end causes.UnknownAccount = auth.UnknownAccount
 reject_end causes.WrongPassword = auth.WrongPassword
 reject_end causes.DisabledAccount = auth.DisabledAccount
 reject_end causes.NoPassword = auth.NoPassword
+reject_end causes.UncheckedCredential = auth.UncheckedCredential
 
 -- an answer that was sent to a request with this cause to reject it, if there is one
 abbrev pub auth_answer : (cause : Option RejectCause) → Said → Option AuthEnd

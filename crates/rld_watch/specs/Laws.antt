@@ -106,6 +106,7 @@ AuthSays service one auth.UnknownAccount = IsRejectedFor service one causes.Unkn
 AuthSays service one auth.WrongPassword = IsRejectedFor service one causes.WrongPassword
 AuthSays service one auth.DisabledAccount = IsRejectedFor service one causes.DisabledAccount
 AuthSays service one auth.NoPassword = IsRejectedFor service one causes.NoPassword
+AuthSays service one auth.UncheckedCredential = IsRejectedFor service one causes.UncheckedCredential
 
 -- what an end at the accounting port says of a datagram
 abbrev pub AcctSays : ServiceSeen → PeerDatagram → AcctEnd → Type 0

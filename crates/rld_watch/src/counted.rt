@@ -1,8 +1,8 @@
 ghost use Rattle.std.specs.Prelude.{◌≡◌, ◌∷◌, ◌++◌, [], IfOk, List, length, option_to_list, replicate};
 ghost use Rattle.rld_counts.specs.Cell.{HasCounted, without_clients};
 ghost use Rattle.rld_counts.specs.declared.ended.Ended.{Ended as OneEnded};
-ghost use Rattle.rld_turn.specs.Told.{is_answered, told_as};
-ghost use Rattle.rld_watch.specs.Counted.{IsCount, count_of, for_clients, time_if, unread};
+ghost use Rattle.rld_turn.specs.Told.{told_as};
+ghost use Rattle.rld_watch.specs.Counted.{IsCount, count_of, for_clients, is_answered, time_if, unread};
 ghost use Rattle.rld_watch.specs.Ending.{end_at};
 
 use crate::ending::end_at;

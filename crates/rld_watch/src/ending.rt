@@ -100,6 +100,7 @@ fn reject_end(cause: RejectCause) -> AuthEnd
         RejectCause::WrongPassword => AuthEnd::WrongPassword,
         RejectCause::DisabledAccount => AuthEnd::DisabledAccount,
         RejectCause::NoPassword => AuthEnd::NoPassword,
+        RejectCause::UncheckedCredential => AuthEnd::UncheckedCredential,
     }
 }
 

@@ -1,7 +1,6 @@
 //! All connections, served from one thread.
 
-ghost use Rattle.std.specs.Prelude.{◌≡◌, ◌<◌, ◌≤◌, IfSome, IsTrue};
-ghost use Rattle.rld_web.specs.Fresh.{is_fresh};
+ghost use Rattle.std.specs.Prelude.{◌≡◌, ◌<◌, ◌≤◌};
 
 use crate::http_connection::{HttpConnection, Turn};
 use crate::page_service::PageService;
@@ -128,13 +127,11 @@ fn turn<S: Shown>(
 ) -> Turn
     ensures over { connection.old.until ≤ now → (result ≡ Turn.Leaves) × (service.new ≡ service.old) }
     ensures place { now < connection.old.until → service.new.place ≡ connection.old.place }
-    ensures fresh { now < connection.old.until →
-        IfSome service.new.look (λ _. IsTrue (is_fresh service.new.look service.new.taken now)) }
+    ensures moment { now < connection.old.until → service.new.moment ≡ now }
 {
     if connection.left(now) == 0 {
         return Turn::Leaves;
     }
-    service.look_at(now);
-    service.turn_to(connection.place());
+    service.turn_to(connection.place(), now);
     connection.take_turn(service)
 }

@@ -88,9 +88,8 @@ impl HttpConnection {
     /// answer requests to the local address of this connection.
     pub(crate) fn take_turn<S: Shown>(&mut self, service: &mut PageService<'_, S>) -> Turn
         requires { service.old.place ≡ self.old.place }
-        ensures look { service.new.look ≡ service.old.look }
-        ensures taken { service.new.taken ≡ service.old.taken }
         ensures place { service.new.place ≡ service.old.place }
+        ensures moment { service.new.moment ≡ service.old.moment }
     {
         for _ in 0..MOVES {
             match self.take_step(service) {
@@ -106,9 +105,8 @@ impl HttpConnection {
     /// Answers what has come, and moves octets once. After the answer what still comes is read and
     /// discarded, until the peer has closed too.
     fn take_step<S: Shown>(&mut self, service: &mut PageService<'_, S>) -> io::Result<Turn>
-        ensures look { service.new.look ≡ service.old.look }
-        ensures taken { service.new.taken ≡ service.old.taken }
         ensures place { service.new.place ≡ service.old.place }
+        ensures moment { service.new.moment ≡ service.old.moment }
     {
         if self.is_answered {
             return self.discard();
@@ -146,9 +144,8 @@ impl HttpConnection {
 
 /// Answers what has come.
 fn answer<S: Shown>(connection: &mut Connection, service: &mut PageService<'_, S>)
-    ensures look { service.new.look ≡ service.old.look }
-    ensures taken { service.new.taken ≡ service.old.taken }
     ensures place { service.new.place ≡ service.old.place }
+    ensures moment { service.new.moment ≡ service.old.moment }
 {
     connection.advance(service);
 }

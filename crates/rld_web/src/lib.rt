@@ -11,6 +11,7 @@ mod http_connection;
 mod page_service;
 mod path;
 mod place;
+mod wanted;
 mod web;
 
 pub use web::Web;

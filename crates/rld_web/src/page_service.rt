@@ -1,13 +1,12 @@
-ghost use Rattle.std.specs.Prelude.{◌≡◌, IfOk, IfSome, IsFalse, IsTrue, MatchOption, OnOk, None, Some};
+ghost use Rattle.std.specs.Prelude.{◌≡◌, IfOk, OnOk, None};
 ghost use Rattle.http_server.specs.Response.{IsBlank};
-ghost use Rattle.rld_look.specs.Health.{health_of};
-ghost use Rattle.rld_web.specs.Answer.{Answers, HasAnswered, IsRead, IsRefusedMethod, IsShown, IsTextOf, is_reading, status_of};
-ghost use Rattle.rld_web.specs.Fresh.{is_fresh};
-ghost use Rattle.rld_web.specs.Path.{path_of};
+ghost use Rattle.rld_web.specs.Answer.{HasAnswered, IsAnswered, IsRefusedMethod, IsShown, IsTextOf, status_of};
+ghost use Rattle.rld_web.specs.Fresh.{IsTakenWhere, is_fresh, shown_of, taken_at};
+ghost use Rattle.rld_web.specs.Wanted.{needs_accounts, needs_look, wanted_of};
 
 use crate::answer::{fill, refuse};
 use crate::path::Path;
-use crate::place::is_asked_for;
+use crate::wanted::Wanted;
 use bytes::Bytes;
 use http::{HeaderValue, Request, StatusCode};
 use http_header::ALLOW;
@@ -23,15 +22,17 @@ const LOOK_MILLIS: u64 = 1_000;
 
 const _: () = prove!(LOOK_MILLIS == 1_000);
 
-/// Answers requests from a look at the server, which is at most a second old when a request is
-/// read; and from one at its accounts, which is taken once they are asked for, and is no older.
+/// Answers requests. What the server shows and what its accounts hold is looked at where a request asks for
+/// that: by a look that was taken for an earlier request less than a second before, or else by a new one.
 #[derive(Drop)]
 pub(crate) struct PageService<'a, S: Shown> {
     alloc: Global,
     server: &'a S,
     look: Option<Look>,
-    accounts: Option<AccountsLook>,
     taken: u64,
+    accounts: Option<AccountsLook>,
+    accounts_taken: u64,
+    moment: u64,
     place: SocketAddrV4,
 }
 
@@ -46,126 +47,145 @@ impl<'a, S: Shown> PageService<'a, S> {
             alloc,
             server,
             look: None,
-            accounts: None,
             taken: 0,
+            accounts: None,
+            accounts_taken: 0,
+            moment: 0,
             place,
         }
     }
 
-    /// Looks at the server if the last look is a second old, at this moment in milliseconds, and
-    /// forgets what its accounts held. If memory for the look is refused, there is none, and no
-    /// request is answered. A look that is younger stays.
-    pub(crate) fn look_at(&mut self, now: u64)
-        ensures kept { IsTrue (is_fresh self.old.look self.old.taken now) → self.new ≡ self.old }
-        ensures anew { IsFalse (is_fresh self.old.look self.old.taken now) →
-            self.new ≡ record self.old { look = self.new.look; accounts = None; taken = now } }
-        ensures shown { IsFalse (is_fresh self.old.look self.old.taken now) →
-            IfSome self.new.look (S.shows now) }
-    {
-        if self.look.is_some() && now.saturating_sub(self.taken) < LOOK_MILLIS {
-            return;
-        }
-        self.look = self.server.take_look(now).ok();
-        self.accounts = None;
-        self.taken = now;
-    }
-
-    /// Answers requests to this place from now on.
-    pub(crate) fn turn_to(&mut self, place: SocketAddrV4)
-        ensures { self.new ≡ record self.old { place = place } }
+    /// Answers requests to this place from now on, at this moment in milliseconds.
+    pub(crate) fn turn_to(&mut self, place: SocketAddrV4, moment: u64)
+        ensures { self.new ≡ record self.old { place = place; moment = moment } }
     {
         self.place = place;
+        self.moment = moment;
+    }
+
+    /// A look at the server for a request, taken now; or nothing where it needs none, or where the last look
+    /// is younger than a second. If memory is refused, the look that was taken is none.
+    fn look_for(&self, wanted: Wanted) -> Option<Option<Look>>
+        ensures { IsTakenWhere (needs_look wanted) S.shows self.now.moment self.now.look self.now.taken
+            (shown_of result self.now.look) (taken_at result self.now.taken self.now.moment) }
+    {
+        if !wanted.needs_look() {
+            return None;
+        }
+        if is_fresh(&self.look, self.taken, self.moment) {
+            return None;
+        }
+        Some(self.server.take_look(self.moment).ok())
+    }
+
+    /// A look at what the accounts hold, as `look_for` takes one at the server.
+    fn accounts_for(&self, wanted: Wanted) -> Option<Option<AccountsLook>>
+        ensures { IsTakenWhere (needs_accounts wanted) (λ _. S.holds) self.now.moment self.now.accounts
+            self.now.accounts_taken (shown_of result self.now.accounts)
+            (taken_at result self.now.accounts_taken self.now.moment) }
+    {
+        if !wanted.needs_accounts() {
+            return None;
+        }
+        if is_fresh(&self.accounts, self.accounts_taken, self.moment) {
+            return None;
+        }
+        Some(self.server.take_accounts().ok())
+    }
+
+    /// Keeps the looks that were taken for a request, for those that come.
+    fn keep(&mut self, look: Option<Option<Look>>, accounts: Option<Option<AccountsLook>>)
+        ensures { self.new ≡ record self.old {
+          look = shown_of look self.old.look;
+          taken = taken_at look self.old.taken self.old.moment;
+          accounts = shown_of accounts self.old.accounts;
+          accounts_taken = taken_at accounts self.old.accounts_taken self.old.moment;
+        } }
+    {
+        if let Some(look) = look {
+            self.look = look;
+            self.taken = self.moment;
+        }
+        if let Some(accounts) = accounts {
+            self.accounts = accounts;
+            self.accounts_taken = self.moment;
+        }
+    }
+}
+
+/// The look that a request is shown: what was taken for it, or else what is kept.
+fn shown_of<'l, T>(taken: &'l Option<Option<T>>, kept: &'l Option<T>) -> &'l Option<T>
+    ensures { result.now ≡ shown_of taken.now kept.now }
+{
+    match taken {
+        Some(taken) => taken,
+        None => kept,
+    }
+}
+
+/// Whether there is a look, which was taken less than a second before this moment in milliseconds.
+fn is_fresh<T>(look: &Option<T>, taken: u64, now: u64) -> bool
+    ensures { result ≡ is_fresh look.now taken now }
+{
+    match look {
+        Some(_) => now.saturating_sub(taken) < LOOK_MILLIS,
+        None => false,
     }
 }
 
 impl<S: Shown> Service for PageService<'_, S> {
     ghost answers = { λ old request response new.
-        HasAnswered old.look new.accounts old.place request response
-        × (new.look ≡ old.look) × (new.taken ≡ old.taken) × (new.place ≡ old.place)
-        × MatchOption old.accounts (IfSome new.accounts S.holds) (λ accounts. new.accounts ≡ Some accounts) };
+        HasAnswered S.fares new.look new.accounts (wanted_of old.place request) response
+        × (new.place ≡ old.place) × (new.moment ≡ old.moment)
+        × IsTakenWhere (needs_look (wanted_of old.place request)) S.shows old.moment old.look old.taken
+        new.look new.taken
+        × IsTakenWhere (needs_accounts (wanted_of old.place request)) (λ _. S.holds) old.moment old.accounts
+        old.accounts_taken new.accounts new.accounts_taken };
 
     fn call(
         &mut self,
         request: &Request<Bytes>,
         response: &mut Response,
     ) -> Result<(), AllocError> {
-        let Some(look) = &self.look else {
-            return Err(AllocError);
-        };
-        if self.accounts.is_none() && asks_for_accounts(request.uri().path()) {
-            let accounts = self.server.take_accounts().ok();
-            answer(self.alloc, self.place, look, &accounts, request, response)?;
-            self.accounts = accounts;
-            return Ok(());
-        }
+        let wanted = Wanted::of(self.alloc, self.place, request)?;
+        let look = self.look_for(wanted);
+        let accounts = self.accounts_for(wanted);
+        let health = self.server.health();
         answer(
             self.alloc,
-            self.place,
-            look,
-            &self.accounts,
-            request,
+            wanted,
+            health,
+            shown_of(&look, &self.look),
+            shown_of(&accounts, &self.accounts),
             response,
-        )
+        )?;
+        self.keep(look, accounts);
+        Ok(())
     }
 }
 
-/// Whether a path asks for what the accounts hold.
-fn asks_for_accounts(path: &str) -> bool {
-    matches!(Path::of(path), Some(Path::Accounts))
-}
-
-/// Answers a request to the server at this place from a look at it, and at its accounts.
+/// Answers what is asked of a server that fares so, from these looks at it. It fails if memory is refused, or
+/// was for the look that is needed.
 fn answer(
     alloc: Global,
-    place: SocketAddrV4,
-    look: &Look,
+    wanted: Wanted,
+    health: Health,
+    look: &Option<Look>,
     accounts: &Option<AccountsLook>,
-    request: &Request<Bytes>,
     response: &mut Response,
 ) -> Result<(), AllocError>
     requires { IsBlank response.old }
-    ensures { OnOk result (Answers look.entry.now accounts.entry.now place request.now response.new) }
+    ensures { OnOk result (IsAnswered health look.entry.now accounts.entry.now wanted response.new) }
 {
-    if is_asked_for(alloc, place, request)? {
-        let method = request.method().as_str();
-        read(
-            alloc,
-            look,
-            accounts,
-            method,
-            request.uri().path(),
-            response,
-        )
-    } else {
-        let text = "ask for this server by its address or as localhost\n";
-        refuse(response, StatusCode::MISDIRECTED_REQUEST, text)
+    match wanted {
+        Wanted::Elsewhere => {
+            let text = "ask for this server by its address or as localhost\n";
+            refuse(response, StatusCode::MISDIRECTED_REQUEST, text)
+        }
+        Wanted::Change => refuse_method(response),
+        Wanted::Unknown => refuse(response, StatusCode::NOT_FOUND, "there is no such page\n"),
+        Wanted::Of(path) => show(alloc, path, health, look, accounts, response),
     }
-}
-
-/// Answers a method under the server's own name.
-fn read(
-    alloc: Global,
-    look: &Look,
-    accounts: &Option<AccountsLook>,
-    method: &str,
-    path: &str,
-    response: &mut Response,
-) -> Result<(), AllocError>
-    requires { IsBlank response.old }
-    ensures { OnOk result (IsRead look.entry.now accounts.entry.now (is_reading method.now) path.now response.new) }
-{
-    if is_reading(method) {
-        show(alloc, look, accounts, path, response)
-    } else {
-        refuse_method(response)
-    }
-}
-
-/// Whether a method only reads.
-fn is_reading(method: &str) -> bool
-    ensures { result ≡ is_reading method.now }
-{
-    method == "GET" || method == "HEAD"
 }
 
 /// Answers a method that does more than read.
@@ -181,59 +201,56 @@ fn refuse_method(response: &mut Response) -> Result<(), AllocError>
 /// Answers with the text of a path.
 fn show(
     alloc: Global,
-    look: &Look,
+    path: Path,
+    health: Health,
+    look: &Option<Look>,
     accounts: &Option<AccountsLook>,
-    path: &str,
     response: &mut Response,
 ) -> Result<(), AllocError>
     requires { IsBlank response.old }
-    ensures { OnOk result (IsShown look.entry.now accounts.entry.now (path_of path.now) response.new) }
+    ensures { OnOk result (IsShown health look.entry.now accounts.entry.now path response.new) }
 {
-    let Some(path) = Path::of(path) else {
-        return refuse(response, StatusCode::NOT_FOUND, "there is no such page\n");
-    };
-    let text = text_of(alloc, look, accounts, path)?;
+    let text = text_of(alloc, path, health, look, accounts)?;
     let body = Bytes::from_vec(text)?;
-    fill(response, status_of(look, path), path.media_type(), body)
+    fill(response, status_of(health, path), path.media_type(), body)
 }
 
-/// The text of a path. It fails if memory is refused, for the text, or for the look at the accounts
-/// before it.
+/// The text of a path. It fails if memory is refused, for the text, or for the look that is needed before it.
 fn text_of(
     alloc: Global,
-    look: &Look,
-    accounts: &Option<AccountsLook>,
     path: Path,
+    health: Health,
+    look: &Option<Look>,
+    accounts: &Option<AccountsLook>,
 ) -> Result<Vec<u8>, AllocError>
-    ensures { IfOk result (λ text. IsTextOf look.entry.now accounts.entry.now path text.items) }
+    ensures { IfOk result (λ text. IsTextOf health look.entry.now accounts.entry.now path text.items) }
 {
     match path {
-        Path::Page => page(alloc, look),
-        Path::Metrics => {
-            let mut text = Vec::new(alloc);
-            push_metrics(alloc, &mut text, look)?;
-            Ok(text)
-        }
+        Path::Page => match look {
+            Some(look) => page(alloc, look),
+            None => Err(AllocError),
+        },
+        Path::Metrics => match look {
+            Some(look) => {
+                let mut text = Vec::new(alloc);
+                push_metrics(alloc, &mut text, look)?;
+                Ok(text)
+            }
+            None => Err(AllocError),
+        },
         Path::Accounts => match accounts {
             Some(accounts) => accounts_json(alloc, accounts),
             None => Err(AllocError),
         },
-        Path::Health => Vec::from_slice(alloc, health_of(look).text().as_bytes()),
+        Path::Health => Vec::from_slice(alloc, health.text().as_bytes()),
     }
 }
 
-/// The health of a server that shows this.
-fn health_of(look: &Look) -> Health
-    ensures { result ≡ health_of look.entry.now.recording look.entry.now.clock_behind }
-{
-    Health::of(look.recording, look.clock_behind)
-}
-
 /// The status of a path: 200, and 503 for the health of a server that is not well.
-fn status_of(look: &Look, path: Path) -> StatusCode
-    ensures { result ≡ status_of look.entry.now path }
+fn status_of(health: Health, path: Path) -> StatusCode
+    ensures { result ≡ status_of health path }
 {
-    match (path, health_of(look)) {
+    match (path, health) {
         (Path::Health, Health::NotRecording | Health::ClockBehind) => {
             StatusCode::SERVICE_UNAVAILABLE
         }

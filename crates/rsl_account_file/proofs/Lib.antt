@@ -4,3 +4,4 @@ pub mod Parts
 pub mod Names
 pub mod Consumed
 pub mod ReplyLists
+pub mod Staying

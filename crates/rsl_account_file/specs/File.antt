@@ -1,6 +1,6 @@
 -- The configuration of an account file: the value of each field or its fault, and the parts that they make.
-use Rattle.std.specs.Prelude.{ℕ, ◌+◌, pos, Bool, true, false, ◌&&◌, nat_le, bytes_eq, if◌then◌else◌, List, [], ◌∷◌, ◌++◌, length, Option, None, Some, option_map, unwrap_or, ok_or, Result, Ok, Err, is_some}
-use Rattle.std.specs.List.{list_all}
+use Rattle.std.specs.Prelude.{ℕ, ◌+◌, pos, Bool, true, false, ◌&&◌, not, nat_le, min, bytes_eq, if◌then◌else◌, List, [], ◌∷◌, ◌++◌, length, Option, None, Some, option_map, unwrap_or, ok_or, Result, Ok, Err, is_some}
+use Rattle.std.specs.List.{list_all, list_any, flat_map}
 use Rattle.std.specs.Result.{result_map_both}
 use Rattle.std.specs.Str.{is_utf8}
 use Rattle.toml.specs.Data.{Data, string, integer, boolean, array, table, Items, no_items, item, Members, no_members, member, get, as_table}
@@ -18,10 +18,12 @@ use Rattle.rsl_accounts.specs.Address.{address_of}
 use Rattle.rsl_accounts.specs.Configuration.{Configuration, configuration_of, fault_or}
 use Rattle.rsl_accounts.specs.Field.{field_key, takes_number, takes_count, takes_text}
 use Rattle.rsl_accounts.specs.Part.{knows}
-use Rattle.rsl_account_file.specs.declared.profile.Profile.{Profile}
-use Rattle.rsl_account_file.specs.Common.{Common}
-use Rattle.rsl_reply.specs.declared.fault.ReplyFault.{ReplyFault}
-use Rattle.rsl_reply.specs.declared.fault.ReplyFault.TheVariants.{NotText}
+use Rattle.rsl_account_file.specs.Common.{Common, ProfileSeen, octets_of}
+use Rattle.rsl_reply.specs.declared.attribute.ReplyAttribute.{ReplyAttribute}
+use Rattle.rsl_reply.specs.declared.dictionary.Dictionary.{Dictionary}
+use Rattle.rsl_accounts.specs.declared.reply_fault.ReplyFault.{ReplyFault}
+use Rattle.rsl_accounts.specs.declared.reply_fault.ReplyFault.TheVariants.{NotText}
+use Rattle.rsl_reply.specs.Attribute.{is_same}
 use Rattle.rsl_reply.specs.Reading.{attribute_of_text}
 use Rattle.rsl_accounts.specs.Settings.{rules_of_places}
 use Rattle.rsl_accounts.specs.Version.{is_strict, knows_own_times}
@@ -84,6 +86,13 @@ number_in value field = required field (number_of field) (member_in value field)
 
 unfoldable pub option_in : Data → Field → Result (Option ℕ) ConfigFault
 option_in value field = optional field (number_of field) (member_in value field)
+
+-- the number of a field that version 3 lets a table leave out: it is `default` then
+unfoldable pub number_or_in : (version : ℕ) → Data → Field → (default : ℕ) → Result ℕ ConfigFault
+number_or_in version value field default =
+    if is_strict version
+    then result_map_both (λ number. unwrap_or number default) (λ fault. fault) (option_in value field)
+    else number_in value field
 
 unfoldable pub text_in : Data → Field → Result (List ℕ) ConfigFault
 text_in value field = required field (text_of field) (member_in value field)
@@ -186,89 +195,110 @@ password_in version value =
     if is_strict version then option_text_in value field.Password
     else result_map_both Some (λ fault. fault) (text_in value field.Password)
 
--- the octets of the attribute that an item of a list `reply` writes, or its fault by its place
-abbrev pub reply_octets : Part → (name : List ℕ) → (place : ℕ) → Result (List ℕ) ReplyFault
-    → Result (List ℕ) ConfigFault
-reply_octets part name place (Ok octets) = Ok octets
-reply_octets part name place (Err fault) = Err (BadReply part name place fault)
+-- the attribute that an item of a list `reply` writes, or its fault by its place
+abbrev pub reply_attribute : Part → (name : List ℕ) → (place : ℕ) → Result ReplyAttribute ReplyFault
+    → Result ReplyAttribute ConfigFault
+reply_attribute part name place (Ok attribute) = Ok attribute
+reply_attribute part name place (Err fault) = Err (BadReply part name place fault)
 
-abbrev pub reply_item : Part → (name : List ℕ) → (place : ℕ) → Data → Result (List ℕ) ConfigFault
-reply_item part name place (string text) = reply_octets part name place (attribute_of_text text)
-reply_item part name place _ = reply_octets part name place (Err NotText)
+abbrev pub reply_item : Dictionary → Part → (name : List ℕ) → (place : ℕ) → Data
+    → Result ReplyAttribute ConfigFault
+reply_item names part name place (string text) =
+    reply_attribute part name place (attribute_of_text names text)
+reply_item names part name place _ = reply_attribute part name place (Err NotText)
 
--- these octets, and those of all items after them
-unfoldable pub replies_from : Part → (name : List ℕ) → (place : ℕ) → (before : List ℕ) → List Data
-    → Result (List ℕ) ConfigFault
-replies_from part name place before [] = Ok before
-replies_from part name place before (value ∷ values) =
-    and_then (reply_item part name place value) (λ octets.
-    replies_from part name (place + 1) (before ++ octets) values)
+-- these attributes, and those of all items after them
+unfoldable pub replies_from : Dictionary → Part → (name : List ℕ) → (place : ℕ)
+    → (before : List ReplyAttribute) → List Data → Result (List ReplyAttribute) ConfigFault
+replies_from names part name place before [] = Ok before
+replies_from names part name place before (value ∷ values) =
+    and_then (reply_item names part name place value) (λ attribute.
+    replies_from names part name (place + 1) (before ++ attribute ∷ []) values)
 
--- the octets of the attributes that a list writes
-unfoldable pub reply_list : Part → (name : List ℕ) → Data → Result (List ℕ) ConfigFault
-reply_list part name (array items) = replies_from part name 1 [] (list_of items)
-reply_list part name _ = Err (BadValue field.Reply)
+-- the attributes that a list writes
+unfoldable pub reply_list : Dictionary → Part → (name : List ℕ) → Data
+    → Result (List ReplyAttribute) ConfigFault
+reply_list names part name (array items) = replies_from names part name 1 [] (list_of items)
+reply_list names part name _ = Err (BadValue field.Reply)
 
 -- a table of a profile: its list alone
-unfoldable pub profile_in : (version : ℕ) → (name : List ℕ) → Data → Result Profile ConfigFault
-profile_in version name value =
+unfoldable pub profile_in : (version : ℕ) → Dictionary → (name : List ℕ) → Data
+    → Result ProfileSeen ConfigFault
+profile_in version names name value =
     fault_or (misspelled_in version part.Profile value)
     (and_then (required field.Reply Some (member_in value field.Reply)) (λ list.
-    and_then (reply_list part.Profile name list) (λ reply.
-    Ok (record { name = name; reply = reply }))))
+    and_then (reply_list names part.Profile name list) (λ attributes.
+    Ok (record { name = name; attributes = attributes }))))
 
 -- these profiles, and those of all members after them
-unfoldable pub profiles_from : (version : ℕ) → (before : List Profile) → Members
-    → Result (List Profile) ConfigFault
-profiles_from version before no_members = Ok before
-profiles_from version before (member name value rest) =
-    and_then (profile_in version name value) (λ profile.
-    profiles_from version (before ++ profile ∷ []) rest)
+unfoldable pub profiles_from : (version : ℕ) → Dictionary → (before : List ProfileSeen) → Members
+    → Result (List ProfileSeen) ConfigFault
+profiles_from version names before no_members = Ok before
+profiles_from version names before (member name value rest) =
+    and_then (profile_in version names name value) (λ profile.
+    profiles_from version names (before ++ profile ∷ []) rest)
 
-abbrev pub profiles_of : (version : ℕ) → Option Data → Result (List Profile) ConfigFault
-profiles_of version None = Ok []
-profiles_of version (Some (table members)) = profiles_from version [] members
-profiles_of version (Some _) = Err (BadValue field.Profile)
+abbrev pub profiles_of : (version : ℕ) → Dictionary → Option Data
+    → Result (List ProfileSeen) ConfigFault
+profiles_of version names None = Ok []
+profiles_of version names (Some (table members)) = profiles_from version names [] members
+profiles_of version names (Some _) = Err (BadValue field.Profile)
 
 -- what the head of a file has for its accounts, which only version 3 knows
-unfoldable pub shared_in : (version : ℕ) → Data → Result Common ConfigFault
-shared_in version value =
+unfoldable pub shared_in : Dictionary → (version : ℕ) → Data → Result Common ConfigFault
+shared_in names version value =
     if is_strict version
     then and_then (flag_in value field.PortLimit true) (λ port_limit.
-    and_then (profiles_of version (member_in value field.Profile)) (λ profiles.
-    Ok (record { port_limit = port_limit; profiles = profiles })))
-    else Ok (record { port_limit = true; profiles = [] })
+    and_then (profiles_of version names (member_in value field.Profile)) (λ profiles.
+    Ok (record { names = names; port_limit = port_limit; profiles = profiles })))
+    else Ok (record { names = names; port_limit = true; profiles = [] })
 
--- the octets of the first profile with a name
-abbrev pub profile_named : List Profile → (name : List ℕ) → Option (List ℕ)
+-- the attributes of the first profile with a name
+abbrev pub profile_named : List ProfileSeen → (name : List ℕ) → Option (List ReplyAttribute)
 profile_named [] name = None
 profile_named (profile ∷ profiles) name =
-    if bytes_eq profile.name name then Some profile.reply else profile_named profiles name
+    if bytes_eq profile.name name then Some profile.attributes else profile_named profiles name
 
--- the octets of the profile of an account, by the name that its table has
-abbrev pub profile_of : List Profile → (account : List ℕ) → Option Data
-    → Result (List ℕ) ConfigFault
+-- those of the profile of an account, by the name that its table has
+abbrev pub profile_of : List ProfileSeen → (account : List ℕ) → Option Data
+    → Result (List ReplyAttribute) ConfigFault
 profile_of profiles account None = Ok []
 profile_of profiles account (Some (string name)) =
     ok_or (profile_named profiles name) (UnknownProfile account)
 profile_of profiles account (Some _) = Err (BadValue field.Profile)
 
-abbrev pub own_reply : (account : List ℕ) → Option Data → Result (List ℕ) ConfigFault
-own_reply account None = Ok []
-own_reply account (Some value) = reply_list part.Account account value
+abbrev pub own_reply : Dictionary → (account : List ℕ) → Option Data
+    → Result (List ReplyAttribute) ConfigFault
+own_reply names account None = Ok []
+own_reply names account (Some value) = reply_list names part.Account account value
 
--- those of its profile and then its own, if they are not too many
+-- an account's attribute takes the place of its profile's of that name, unless it is added
+abbrev pub takes_place : ReplyAttribute → ReplyAttribute → Bool
+takes_place profiles own = not own.adds && is_same own.target profiles.target
+
+abbrev pub stays : (own : List ReplyAttribute) → ReplyAttribute → Bool
+stays own profiles = not (list_any (takes_place profiles) own)
+
+abbrev pub staying : (own : List ReplyAttribute) → ReplyAttribute → List ℕ
+staying own profiles = if stays own profiles then profiles.octets else []
+
+-- the octets of those of its profile that stay, and then of its own
+abbrev pub joined : (front own : List ReplyAttribute) → List ℕ
+joined front own = flat_map (staying own) front ++ octets_of own
+
+-- these, if they are not too many
 abbrev pub short_reply : (account : List ℕ) → List ℕ → Result (List ℕ) ConfigFault
 short_reply account octets =
     if nat_le (length octets) 1000 then Ok octets else Err (ReplyTooLong account)
 
-unfoldable pub reply_in : (version : ℕ) → List Profile → (account : List ℕ) → Data
+-- the profile is looked at before the account's own
+unfoldable pub reply_in : (version : ℕ) → Common → (account : List ℕ) → Data
     → Result (List ℕ) ConfigFault
-reply_in version profiles account value =
+reply_in version shared account value =
     if is_strict version
-    then and_then (profile_of profiles account (member_in value field.Profile)) (λ front.
-    and_then (own_reply account (member_in value field.Reply)) (λ own.
-    short_reply account (front ++ own)))
+    then and_then (profile_of shared.profiles account (member_in value field.Profile)) (λ front.
+    and_then (own_reply shared.names account (member_in value field.Reply)) (λ own.
+    short_reply account (joined front own)))
     else Ok []
 
 -- whether accepts have a Port-Limit: where an account does not say so, as the head says
@@ -281,12 +311,12 @@ unfoldable pub settings_in : Data → Result Settings ConfigFault
 settings_in value =
     and_then (number_in value field.Version) (λ version.
     fault_or (misspelled_in version part.Head value)
-    (and_then (number_in value field.Shards) (λ shards.
-    and_then (number_in value field.ReserveSecs) (λ reserve.
-    and_then (number_in value field.LiveSecs) (λ live.
-    and_then (number_in value field.GraceSecs) (λ grace.
-    and_then (number_in value field.ClosedSecs) (λ closed.
-    and_then (number_in value field.KeepSecs) (λ keep.
+    (and_then (number_or_in version value field.Shards 1) (λ shards.
+    and_then (number_or_in version value field.ReserveSecs 60) (λ reserve.
+    and_then (number_or_in version value field.LiveSecs 900) (λ live.
+    and_then (number_or_in version value field.GraceSecs 900) (λ grace.
+    and_then (number_or_in version value field.ClosedSecs 3600) (λ closed.
+    and_then (number_or_in version value field.KeepSecs (min 15 reserve)) (λ keep.
     and_then (own_in version value field.InterimSecs) (λ interim.
     and_then (head_flag_in version value field.Station) (λ station.
     and_then (head_flag_in version value field.DelayTime) (λ delay_time.
@@ -326,7 +356,7 @@ entry_in version shared value =
     (and_then (text_in value field.Name) (λ name.
     and_then (password_in version value) (λ password.
     and_then (number_in value field.Places) (λ places.
-    and_then (number_in value field.Ports) (λ ports.
+    and_then (number_or_in version value field.Ports 1) (λ ports.
     and_then (option_in value field.ServiceType) (λ service_type.
     and_then (option_in value field.FramedProtocol) (λ framed_protocol.
     and_then (option_in value field.SessionTimeout) (λ session_timeout.
@@ -337,7 +367,7 @@ entry_in version shared value =
     and_then (own_station_in version value) (λ own_station.
     and_then (disabled_in version value) (λ disabled.
     and_then (port_limit_in version shared.port_limit value) (λ port_limit.
-    and_then (reply_in version shared.profiles name value) (λ reply.
+    and_then (reply_in version shared name value) (λ reply.
     Ok (record {
       name = name;
       password = password;
@@ -366,20 +396,20 @@ each part_in (value ∷ values) =
 
 -- the first fault of the walk over the file, or else the configuration of its parts: first the
 -- settings, then how many clients and accounts there are, then each client, then each account
-unfoldable pub configuration_of_file : Data → Result Configuration ConfigFault
-configuration_of_file file =
+unfoldable pub configuration_of_file : Dictionary → Data → Result Configuration ConfigFault
+configuration_of_file names file =
     and_then (settings_in file) (λ settings.
-    and_then (shared_in settings.version file) (λ shared.
+    and_then (shared_in names settings.version file) (λ shared.
     and_then (tables_in file field.Client) (λ client_tables.
     and_then (tables_in file field.Account) (λ account_tables.
     and_then (each (client_in settings.version) client_tables) (λ clients.
     and_then (each (entry_in settings.version shared) account_tables) (λ accounts.
     configuration_of settings clients accounts))))))
 
-abbrev pub configuration_of_parsed : Option Data → Result Configuration ConfigFault
-configuration_of_parsed None = Err NotToml
-configuration_of_parsed (Some file) = configuration_of_file file
+abbrev pub configuration_of_parsed : Dictionary → Option Data → Result Configuration ConfigFault
+configuration_of_parsed names None = Err NotToml
+configuration_of_parsed names (Some file) = configuration_of_file names file
 
 -- the configuration of the text of an account file
-abbrev pub configuration_of_text : List ℕ → Result Configuration ConfigFault
-configuration_of_text text = configuration_of_parsed (file_of text)
+abbrev pub configuration_of_text : Dictionary → List ℕ → Result Configuration ConfigFault
+configuration_of_text names text = configuration_of_parsed names (file_of text)

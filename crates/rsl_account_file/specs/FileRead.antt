@@ -4,6 +4,7 @@ use Rattle.rsl_accounts.specs.Configuration.{Configuration}
 use Rattle.rsl_account_file.specs.File.{configuration_of_text}
 use Rattle.rsl_accounts.specs.declared.fault.ConfigFault.{ConfigFault}
 use Rattle.rsl_accounts.specs.declared.fault.ConfigFault.TheVariants.{NoMemory as config_no_memory}
+use Rattle.rsl_reply.specs.declared.dictionary.Dictionary.{Dictionary}
 use Rattle.rsl_account_file.specs.declared.file_fault.FileFault.{FileFault}
 use Rattle.rsl_account_file.specs.declared.file_fault.FileFault.TheVariants.{Unreadable, TooLong, Config, NoMemory}
 
@@ -18,11 +19,11 @@ fault_of_config fault = Config fault
 
 -- The octets of a file, if they are not too many, give the configuration of their text, or its
 -- fault. Reads and growths may fail at any time.
-abbrev pub IsFileRead : (text : List ℕ) → Result Configuration FileFault → Type 0
-IsFileRead text (Ok config) =
-    (length text ≤ most_octets) × (configuration_of_text text ≡ Ok config)
-IsFileRead text (Err Unreadable) = ⊤
-IsFileRead text (Err TooLong) = most_octets < length text
-IsFileRead text (Err (Config fault)) =
-    (length text ≤ most_octets) × (configuration_of_text text ≡ Err fault)
-IsFileRead text (Err NoMemory) = ⊤
+abbrev pub IsFileRead : Dictionary → (text : List ℕ) → Result Configuration FileFault → Type 0
+IsFileRead names text (Ok config) =
+    (length text ≤ most_octets) × (configuration_of_text names text ≡ Ok config)
+IsFileRead names text (Err Unreadable) = ⊤
+IsFileRead names text (Err TooLong) = most_octets < length text
+IsFileRead names text (Err (Config fault)) =
+    (length text ≤ most_octets) × (configuration_of_text names text ≡ Err fault)
+IsFileRead names text (Err NoMemory) = ⊤

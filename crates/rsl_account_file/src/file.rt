@@ -7,12 +7,35 @@ ghost use Rattle.rsl_account_file.specs.File.{file_of, settings_in, client_in, e
 use crate::profile::Shared;
 use crate::replies::{port_limit, reply};
 use crate::table::{
-    address, check_names, disabled, disconnect, head_flag, interim, number, own_station, own_time,
-    password, secret, short_number, signed, text, trusted,
+    address, check_names, disabled, disconnect, head_flag, interim, number, number_or, own_station,
+    own_time, password, secret, short_number, signed, text, trusted,
 };
 use rsl_accounts::{Client, ConfigFault, Entry, Field, Part, Rules, Secret, Settings, Text};
 use std::alloc::Global;
 use toml::Value;
+
+/// How many shards the accounts are spread over, where a file of version 3 does not say it.
+const SHARDS: u64 = 1;
+
+/// The seconds for which an accept reserves a place, where a file of version 3 does not say it.
+const RESERVE_SECS: u64 = 60;
+
+/// The seconds for which a session counts as live, where a file of version 3 does not say it.
+const LIVE_SECS: u64 = 900;
+
+/// The seconds for which a session that is no longer live keeps its place, where a file of version 3
+/// does not say it.
+const GRACE_SECS: u64 = 900;
+
+/// The seconds for which a stopped session stays closed, where a file of version 3 does not say it.
+const CLOSED_SECS: u64 = 3600;
+
+/// The seconds for which the repeats of an ask get its answer, where a file of version 3 does not say
+/// it and its reservations are not shorter.
+const KEEP_SECS: u64 = 15;
+
+/// The Port-Limit of an account, where a file of version 3 does not say it.
+const PORTS: u64 = 1;
 
 /// The text as a TOML table.
 pub(crate) fn parse(alloc: Global, text: &[u8]) -> Result<Value, ConfigFault>
@@ -36,14 +59,16 @@ pub(crate) fn settings(alloc: Global, file: &Value) -> Result<Settings, ConfigFa
 {
     let version = number(file, Field::Version)?;
     check_names(alloc, version, Part::Head, file)?;
+    let shards = number_or(version, file, Field::Shards, SHARDS)?;
+    let reserve = number_or(version, file, Field::ReserveSecs, RESERVE_SECS)?;
     Ok(Settings {
         version,
-        shards: number(file, Field::Shards)?,
-        reserve: number(file, Field::ReserveSecs)?,
-        live: number(file, Field::LiveSecs)?,
-        grace: number(file, Field::GraceSecs)?,
-        closed: number(file, Field::ClosedSecs)?,
-        keep: number(file, Field::KeepSecs)?,
+        shards,
+        reserve,
+        live: number_or(version, file, Field::LiveSecs, LIVE_SECS)?,
+        grace: number_or(version, file, Field::GraceSecs, GRACE_SECS)?,
+        closed: number_or(version, file, Field::ClosedSecs, CLOSED_SECS)?,
+        keep: number_or(version, file, Field::KeepSecs, KEEP_SECS.min(reserve))?,
         interim: interim(version, file)?,
         station: head_flag(version, file, Field::Station)?,
         delay_time: head_flag(version, file, Field::DelayTime)?,
@@ -91,7 +116,12 @@ pub(crate) fn clients(
 
 /// The account of a table.
 #[tactic(auto, unfolding(crate::specs::File::entry_in))]
-fn entry(alloc: Global, version: u64, shared: &Shared, table: &Value) -> Result<Entry, ConfigFault>
+fn entry(
+    alloc: Global,
+    version: u64,
+    shared: &Shared<'_>,
+    table: &Value,
+) -> Result<Entry, ConfigFault>
     ensures ok { IfOk result (λ entry. entry_in version shared.now (view table.now) ≡ Ok entry) }
     ensures fault { IfErr result (λ fault. fault ≢ ConfigFault.NoMemory →
         entry_in version shared.now (view table.now) ≡ Err fault) }
@@ -101,7 +131,10 @@ fn entry(alloc: Global, version: u64, shared: &Shared, table: &Value) -> Result<
     let name = text(table, Field::Name)?;
     let password = password(version, table)?;
     Ok(Entry {
-        rules: Rules::of_places(number(table, Field::Places)?, number(table, Field::Ports)?),
+        rules: Rules::of_places(
+            number(table, Field::Places)?,
+            number_or(version, table, Field::Ports, PORTS)?,
+        ),
         service_type: short_number(table, Field::ServiceType)?,
         framed_protocol: short_number(table, Field::FramedProtocol)?,
         session_timeout: short_number(table, Field::SessionTimeout)?,
@@ -112,7 +145,7 @@ fn entry(alloc: Global, version: u64, shared: &Shared, table: &Value) -> Result<
         own_station: own_station(version, table)?,
         disabled: disabled(version, table)?,
         port_limit: port_limit(version, shared.port_limit(), table)?,
-        reply: reply(alloc, version, shared.profiles(), name, table)?,
+        reply: reply(alloc, version, shared, name, table)?,
         name: Text::from_str(alloc, name)?,
         password: Secret::from_option(alloc, password)?,
     })
@@ -123,7 +156,7 @@ fn entry(alloc: Global, version: u64, shared: &Shared, table: &Value) -> Result<
 pub(crate) fn entries(
     alloc: Global,
     version: u64,
-    shared: &Shared,
+    shared: &Shared<'_>,
     tables: &[Value],
 ) -> Result<Vec<Entry>, ConfigFault>
     ensures ok { IfOk result (λ entries.

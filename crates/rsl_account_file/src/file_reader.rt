@@ -9,6 +9,7 @@ use crate::replies::shared;
 use crate::table::tables;
 use crate::{TextFault, read_text};
 use rsl_accounts::{Config, ConfigFault, Field};
+use rsl_reply::Dictionary;
 use std::alloc::Global;
 use std::fs::{self, Files};
 use std::io::Read;
@@ -21,10 +22,11 @@ const MAX_FILE_LEN: u32 = 16_777_216;
 pub fn read_config_file<F: Files>(
     files: &F,
     alloc: Global,
+    names: &Dictionary,
     name: &str,
 ) -> Result<Config, FileFault> {
     match fs::open(files, name) {
-        Ok(file) => read_config_from(alloc, file),
+        Ok(file) => read_config_from(alloc, names, file),
         Err(_) => Err(FileFault::Unreadable),
     }
 }
@@ -35,12 +37,16 @@ pub fn read_config_file<F: Files>(
 /// no end, and `TooLong` if there are over 16,777,216 octets, whichever comes first; `Config`
 /// if `read_config` refuses the text. `NoMemory` comes if memory is refused, before the checks
 /// that follow.
-pub fn read_config_from<R: Read + Drop>(alloc: Global, reader: R) -> Result<Config, FileFault>
-    ensures { IfSome (R.remaining reader) (λ text. IsFileRead text result) }
+pub fn read_config_from<R: Read + Drop>(
+    alloc: Global,
+    names: &Dictionary,
+    reader: R,
+) -> Result<Config, FileFault>
+    ensures { IfSome (R.remaining reader) (λ text. IsFileRead names.now text result) }
 {
     let mut reader = reader;
     match read_text(alloc, &mut reader, MAX_FILE_LEN) {
-        Ok(text) => config_of(alloc, text.as_slice()),
+        Ok(text) => config_of(alloc, names, text.as_slice()),
         Err(TextFault::Unreadable) => Err(FileFault::Unreadable),
         Err(TextFault::TooLong) => Err(FileFault::TooLong),
         Err(TextFault::NoMemory) => Err(FileFault::NoMemory),
@@ -48,26 +54,26 @@ pub fn read_config_from<R: Read + Drop>(alloc: Global, reader: R) -> Result<Conf
 }
 
 /// The configuration in the octets of an account file.
-fn config_of(alloc: Global, text: &[u8]) -> Result<Config, FileFault>
+fn config_of(alloc: Global, names: &Dictionary, text: &[u8]) -> Result<Config, FileFault>
     requires { length text.now ≤ most_octets }
-    ensures { IsFileRead text.now result }
+    ensures { IsFileRead names.now text.now result }
 {
-    Ok(read_config(alloc, text)?)
+    Ok(read_config(alloc, names, text)?)
 }
 
-/// The configuration of the text of an account file. The faults come in this order: `NotToml`;
+/// The configuration of the text of an account file, whose attributes have the names of a dictionary. The faults come in this order: `NotToml`;
 /// then `Missing` or `BadValue` of the first field of the walk that is absent or has a wrong
 /// value; then `TwiceClient`, `TwiceAccount` and `KeepTooLong`. `NoMemory` comes if memory is
 /// refused, before the checks that follow. Unknown keys are ignored; in version 3 the first of
 /// a table is `Unknown`, before its fields and after the version.
-pub fn read_config(alloc: Global, text: &[u8]) -> Result<Config, ConfigFault>
-    ensures ok { IfOk result (λ config. configuration_of_text text.now ≡ Ok config) }
+pub fn read_config(alloc: Global, names: &Dictionary, text: &[u8]) -> Result<Config, ConfigFault>
+    ensures ok { IfOk result (λ config. configuration_of_text names.now text.now ≡ Ok config) }
     ensures fault { IfErr result (λ fault. fault ≢ ConfigFault.NoMemory →
-        configuration_of_text text.now ≡ Err fault) }
+        configuration_of_text names.now text.now ≡ Err fault) }
 {
     let file = parse(alloc, text)?;
     let settings = settings(alloc, &file)?;
-    let shared = shared(alloc, settings.version, &file)?;
+    let shared = shared(alloc, names, settings.version, &file)?;
     let client_tables = tables(&file, Field::Client)?;
     let account_tables = tables(&file, Field::Account)?;
     let clients = clients(alloc, settings.version, client_tables)?;

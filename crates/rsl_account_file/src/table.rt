@@ -28,6 +28,7 @@ ghost use Rattle.rsl_account_file.specs.File.{
   tables_of_list,
   tables_of,
   number_in,
+  number_or_in,
   option_flag_in,
   option_in,
   option_text_in,
@@ -115,6 +116,23 @@ pub(crate) fn optional_number(table: &Value, field: Field) -> Result<Option<u64>
             None => Err(ConfigFault::BadValue(field)),
         },
         None => Ok(None),
+    }
+}
+
+/// The number of a field that version 3 lets a table leave out: it is `default` then.
+#[tactic(auto, unfolding(crate::specs::File::number_or_in))]
+pub(crate) fn number_or(
+    version: u64,
+    table: &Value,
+    field: Field,
+    default: u64,
+) -> Result<u64, ConfigFault>
+    ensures { result ≡ number_or_in version (view table.now) field default }
+{
+    if is_strict(version) {
+        Ok(optional_number(table, field)?.unwrap_or(default))
+    } else {
+        number(table, field)
     }
 }
 

@@ -3,8 +3,8 @@ ghost use Rattle.rsl_accounts.specs.declared.fault.ConfigFault.TheVariants.{NoMe
 
 use crate::field::Field;
 use crate::part::Part;
+use crate::reply_fault::ReplyFault;
 use crate::text::Text;
-use rsl_reply::ReplyFault;
 use rsl_wire::NoMemory;
 use std::alloc::{AllocError, AllocFailed};
 use thiserror::Error;

@@ -16,14 +16,18 @@ use arguments::ask_to_serve;
 use command::command;
 use exit::exit_code;
 use fault::Fault;
-use rsl_serve::serve;
+use rsl_dictionary::dictionary;
+use rsl_serve::{ServeFault, serve};
 use std::process::ExitCode;
 
 fn main(rt: HostRuntime) -> ExitCode {
     let outcome = if ask_to_serve(&rt) {
-        serve(&rt, &mut rt.stdout())
-            .map(|_closed| ())
-            .map_err(Fault::from)
+        match dictionary(rt.alloc()) {
+            Ok(names) => serve(&rt, &names, &mut rt.stdout())
+                .map(|_closed| ())
+                .map_err(Fault::from),
+            Err(_) => Err(Fault::Serve(ServeFault::NoMemory)),
+        }
     } else {
         command(rt.alloc(), &rt, &mut rt.stdin(), &mut rt.stdout())
     };

@@ -1,7 +1,9 @@
 pub mod OccurrenceLaws
+pub mod CredentialLaws
 pub mod PreparedLaws
 pub mod SignatureLaws
 pub mod ReplyAttributeLaws
 pub mod Callers
 pub mod ClientKeys
 pub mod Rejecting
+pub mod Untrusted

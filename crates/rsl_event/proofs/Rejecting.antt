@@ -3,7 +3,7 @@ use Rattle.std.proofs.Common.{◌≡◌, ℕ, Bool, true, false, not, cond, List
 use Rattle.std.specs.Prelude.{◌==◌, ◌&&◌, ◌||◌, nat_le, nat_lt, option_and_then, Option, Some, None, Result, Ok, Err}
 use Rattle.std.specs.Option.{option_or}
 use Rattle.rsl_accounts.specs.Configuration.{Configuration, client_number}
-use Rattle.rsl_event.specs.Access.{access_by, access_meaning, ask_or_reject, asker, has_one_password, if_let_in, is_vouched, shows_own, shows_password, unless_dropped}
+use Rattle.rsl_event.specs.Access.{access_by, access_meaning, ask_or_reject, asker, has_one_password, if_let_in, is_vouched, passes_on_credential, shows_own, shows_password, unless_dropped}
 use Rattle.rsl_event.specs.Meaning.{if_client, if_packet, meaning}
 use Rattle.rsl_event.specs.Request.{account_password, is_disabled, is_trusted, attribute_count, named_account, proxy_len, secret_of, most_proxy_len}
 use Rattle.rsl_event.specs.Signature.{must_sign, signature_drop, rule_of}
@@ -23,24 +23,27 @@ use Rattle.rsl_event.specs.Cause.{asker_cause, cause_by, disabled_cause, passwor
 use Rattle.rsl_event.specs.Detail.{detail_by, detail_of}
 use Rattle.rsl_event.specs.Laws.{IsCauseOf, cause_in}
 use Rattle.rsl_event.specs.declared.detail.RejectCause.{RejectCause}
-use Rattle.rsl_event.specs.declared.detail.RejectCause.TheVariants.{Malformed, NotOneName, NotOnePassword, SeveralChallenges, UnknownAccount, NoPassword, WrongPassword, DisabledAccount}
+use Rattle.rsl_event.specs.declared.detail.RejectCause.TheVariants.{Malformed, NotOneName, UncheckedCredential, NotOnePassword, SeveralChallenges, UnknownAccount, NoPassword, WrongPassword, DisabledAccount}
 
 -- by whether the client vouches, whether the account has a password that is shown, and whether it is disabled
 let_in : (v d : Bool) (config : Configuration) (source : Source) (client : ℕ) (fields : Fields) (attributes : List Attribute) (account : ℕ) (password : Option (List ℕ))
     → IsCauseOf (ask_or_reject config source client fields attributes
     (cond ((v || shows_own (secret_of config client) fields.authenticator attributes password) && not d) (Some account) None))
-    (option_or (cond v None (password_cause (secret_of config client) fields.authenticator attributes password)) (disabled_cause d))
-let_in true false config source client fields attributes account password = refl
-let_in true true config source client fields attributes account password = λ (e : DisabledAccount ≡ Malformed). cc
-let_in false d config source client fields attributes account None = λ (e : NoPassword ≡ Malformed). cc
-let_in false d config source client fields attributes account (Some password) =
-    by (shows_password (secret_of config client) fields.authenticator attributes password) d
+    (option_or (disabled_cause d) (cond v None (password_cause (secret_of config client) fields.authenticator attributes password)))
+let_in v true config source client fields attributes account password =
+    rejected (v || shows_own (secret_of config client) fields.authenticator attributes password)
   where
-    by : (s d : Bool) → IsCauseOf (ask_or_reject config source client fields attributes (cond (s && not d) (Some account) None))
-        (option_or (cond s None (Some WrongPassword)) (disabled_cause d))
-    by true false = refl
-    by true true = λ (e : DisabledAccount ≡ Malformed). cc
-    by false d = λ (e : WrongPassword ≡ Malformed). cc
+    rejected : (s : Bool) → IsCauseOf (ask_or_reject config source client fields attributes (cond (s && false) (Some account) None)) (Some DisabledAccount)
+    rejected true = λ (e : DisabledAccount ≡ Malformed). cc
+    rejected false = λ (e : DisabledAccount ≡ Malformed). cc
+let_in true false config source client fields attributes account password = refl
+let_in false false config source client fields attributes account None = λ (e : NoPassword ≡ Malformed). cc
+let_in false false config source client fields attributes account (Some password) =
+    by (shows_password (secret_of config client) fields.authenticator attributes password)
+  where
+    by : (s : Bool) → IsCauseOf (ask_or_reject config source client fields attributes (cond (s && true) (Some account) None)) (cond s None (Some WrongPassword))
+    by true = refl
+    by false = λ (e : WrongPassword ≡ Malformed). cc
 
 -- by the account that is named
 asked : (config : Configuration) (source : Source) (client : ℕ) (fields : Fields) (attributes : List Attribute) (named : Option ℕ)
@@ -51,16 +54,17 @@ asked config source client fields attributes (Some account) =
     let_in (is_vouched (is_trusted config client) attributes) (is_disabled config account) config source client fields attributes account
     (account_password config account)
 
--- by how often each attribute stands there
-counted : (a b c : Bool) (config : Configuration) (source : Source) (client : ℕ) (fields : Fields) (attributes : List Attribute)
+-- by whether there is a credential that is not checked, and how often each attribute stands there
+counted : (a t b c : Bool) (config : Configuration) (source : Source) (client : ℕ) (fields : Fields) (attributes : List Attribute)
     (account : Option ℕ) (cause : Option RejectCause)
     → IsCauseOf (ask_or_reject config source client fields attributes account) cause
-    → IsCauseOf (ask_or_reject config source client fields attributes (cond (a && b && c) account None))
-    (option_or (cond a (cond b (cond c None (Some SeveralChallenges)) (Some NotOnePassword)) (Some NotOneName)) cause)
-counted true true true config source client fields attributes account cause holds = holds
-counted true true false config source client fields attributes account cause holds = λ (e : SeveralChallenges ≡ Malformed). cc
-counted true false c config source client fields attributes account cause holds = λ (e : NotOnePassword ≡ Malformed). cc
-counted false b c config source client fields attributes account cause holds = λ (e : NotOneName ≡ Malformed). cc
+    → IsCauseOf (ask_or_reject config source client fields attributes (cond (a && not t && b && c) account None))
+    (option_or (cond a (cond t (Some UncheckedCredential) (cond b (cond c None (Some SeveralChallenges)) (Some NotOnePassword))) (Some NotOneName)) cause)
+counted true false true true config source client fields attributes account cause holds = holds
+counted true false true false config source client fields attributes account cause holds = λ (e : SeveralChallenges ≡ Malformed). cc
+counted true false false c config source client fields attributes account cause holds = λ (e : NotOnePassword ≡ Malformed). cc
+counted true true b c config source client fields attributes account cause holds = λ (e : UncheckedCredential ≡ Malformed). cc
+counted false t b c config source client fields attributes account cause holds = λ (e : NotOneName ≡ Malformed). cc
 
 -- a well-formed request that is not dropped
 ask_cause : (config : Configuration) (source : Source) (client : ℕ) (fields : Fields) (attributes : List Attribute)
@@ -69,6 +73,7 @@ ask_cause : (config : Configuration) (source : Source) (client : ℕ) (fields : 
 unfolding asker
 ask_cause config source client fields attributes =
     counted (attribute_count USER_NAME attributes == 1)
+    (passes_on_credential (is_trusted config client) attributes)
     (has_one_password attributes || is_vouched (is_trusted config client) attributes)
     (nat_le (attribute_count CHAP_CHALLENGE attributes) 1) config source client fields attributes
     (option_and_then (if_let_in config client fields.authenticator attributes) (named_account config attributes))

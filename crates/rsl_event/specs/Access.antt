@@ -1,10 +1,11 @@
 -- What an Access-Request means (RFC 2865 section 4.1).
-use Rattle.std.specs.Prelude.{ℕ, ◌+◌, ◌==◌, ◌&&◌, ◌||◌, nat_le, nat_lt, Bool, false, not, List, unwrap_or, is_some, option_and_then, if◌then◌else◌, Option, Some, None, Result, Ok, Err}
+use Rattle.std.specs.Prelude.{ℕ, ◌+◌, ◌==◌, ◌&&◌, ◌||◌, nat_le, nat_lt, Bool, false, not, List, unwrap_or, option_and_then, if◌then◌else◌, Option, Some, None, Result, Ok, Err}
 use Rattle.rsl_accounts.specs.Configuration.{Configuration}
 use Rattle.rsl_auth.specs.Chap.{matches_chap}
 use Rattle.rsl_auth.specs.Password.{matches_password}
 use Rattle.rsl_wire.specs.Attributes.{Attribute, first_of, attribute_list}
 use Rattle.rsl_wire.specs.Packet.{Fields}
+use Rattle.rsl_event.specs.Credential.{has_unchecked_credential}
 use Rattle.rsl_event.specs.Request.{attribute_count, access_server_of, named_account, proxy_len, secret_of, account_password, is_disabled, is_trusted, most_proxy_len}
 use Rattle.rsl_event.specs.Station.{station_in}
 use Rattle.rsl_event.specs.Signature.{must_sign, signature_drop, rule_of}
@@ -14,31 +15,31 @@ use Rattle.rsl_event.specs.declared.meaning.Meaning.{Meaning}
 use Rattle.rsl_event.specs.declared.meaning.Meaning.TheVariants.{Bare, Reject, Own}
 use Rattle.rsl_event.specs.declared.meaning.Dropped.{Dropped}
 use Rattle.rsl_event.specs.declared.meaning.Dropped.TheVariants.{WrongCode, ProxyTooLong, Unsigned}
-use Rattle.rsl_event.specs.declared.codes.TheConstants.{ACCESS_REQUEST, USER_NAME, USER_PASSWORD, CHAP_PASSWORD, CHAP_CHALLENGE, EAP_MESSAGE}
+use Rattle.rsl_event.specs.declared.codes.TheConstants.{ACCESS_REQUEST, USER_NAME, USER_PASSWORD, CHAP_PASSWORD, CHAP_CHALLENGE}
 
--- whether there is an EAP-Message (RFC 3579 section 3.1)
-abbrev pub has_eap_message : List Attribute → Bool
-has_eap_message attributes = is_some (first_of EAP_MESSAGE attributes)
+-- whether a trusted client passes on a credential that the server does not check, so that nobody may have
+-- looked at it
+abbrev pub passes_on_credential : (trusted : Bool) → List Attribute → Bool
+passes_on_credential trusted attributes = trusted && has_unchecked_credential attributes
 
--- A trusted client vouches for a request that has nothing to check: no password of either kind, and no
--- EAP-Message.
+-- A trusted client vouches for a request that has no password of either kind.
 abbrev pub is_vouched : (trusted : Bool) → List Attribute → Bool
 is_vouched trusted attributes =
     trusted
     && attribute_count USER_PASSWORD attributes == 0
     && attribute_count CHAP_PASSWORD attributes == 0
-    && not (has_eap_message attributes)
 
 -- exactly one password, of either kind
 abbrev pub has_one_password : List Attribute → Bool
 has_one_password attributes =
     attribute_count USER_PASSWORD attributes + attribute_count CHAP_PASSWORD attributes == 1
 
--- exactly one User-Name, exactly one password unless the client vouches, and at most one
--- CHAP-Challenge
+-- exactly one User-Name, no unchecked credential of a trusted client, exactly one password unless the client
+-- vouches, and at most one CHAP-Challenge
 abbrev pub asks_once : (trusted : Bool) → List Attribute → Bool
 asks_once trusted attributes =
     attribute_count USER_NAME attributes == 1
+    && not (passes_on_credential trusted attributes)
     && (has_one_password attributes || is_vouched trusted attributes)
     && nat_le (attribute_count CHAP_CHALLENGE attributes) 1
 

@@ -5,21 +5,22 @@ use Rattle.std.specs.Option.{option_or}
 use Rattle.rsl_accounts.specs.Configuration.{Configuration}
 use Rattle.rsl_wire.specs.Attributes.{Attribute, attribute_list}
 use Rattle.rsl_wire.specs.Packet.{Fields}
-use Rattle.rsl_event.specs.Access.{has_one_password, is_vouched, shows_password}
+use Rattle.rsl_event.specs.Access.{has_one_password, is_vouched, passes_on_credential, shows_password}
 use Rattle.rsl_event.specs.Request.{account_password, is_disabled, is_trusted, attribute_count, named_account, secret_of}
 use Rattle.rsl_event.specs.declared.codes.TheConstants.{USER_NAME, CHAP_CHALLENGE}
 use Rattle.rsl_event.specs.declared.detail.RejectCause.{RejectCause}
-use Rattle.rsl_event.specs.declared.detail.RejectCause.TheVariants.{Malformed, NotOneName, NotOnePassword, SeveralChallenges, UnknownAccount, NoPassword, WrongPassword, DisabledAccount}
+use Rattle.rsl_event.specs.declared.detail.RejectCause.TheVariants.{Malformed, NotOneName, UncheckedCredential, NotOnePassword, SeveralChallenges, UnknownAccount, NoPassword, WrongPassword, DisabledAccount}
 
--- one User-Name, one password of either kind unless the client vouches, at most one CHAP-Challenge: the
--- first of these that is not so
+-- one User-Name, no unchecked credential of a trusted client, one password of either kind unless the client
+-- vouches, at most one CHAP-Challenge: the first of these that is not so
 abbrev pub count_cause : (trusted : Bool) → List Attribute → Option RejectCause
 count_cause trusted attributes =
     if attribute_count USER_NAME attributes == 1
-    then (if has_one_password attributes || is_vouched trusted attributes
+    then (if passes_on_credential trusted attributes then Some UncheckedCredential
+    else (if has_one_password attributes || is_vouched trusted attributes
     then (if nat_le (attribute_count CHAP_CHALLENGE attributes) 1 then None
     else Some SeveralChallenges)
-    else Some NotOnePassword)
+    else Some NotOnePassword))
     else Some NotOneName
 
 -- the account has a password, and it is shown
@@ -39,15 +40,14 @@ login_cause trusted secret authenticator attributes password =
 abbrev pub disabled_cause : (is_disabled : Bool) → Option RejectCause
 disabled_cause is_disabled = if is_disabled then Some DisabledAccount else None
 
--- there is an account of the name, the login is let in, and the account is not disabled
+-- there is an account of the name, it is not disabled, whatever password is shown, and the login is let in
 abbrev pub asker_cause : Configuration → (client : ℕ) → (authenticator : List ℕ) → List Attribute
     → (account : Option ℕ) → Option RejectCause
 asker_cause config client authenticator attributes None = Some UnknownAccount
 asker_cause config client authenticator attributes (Some account) =
-    option_or
+    option_or (disabled_cause (is_disabled config account))
     (login_cause (is_trusted config client) (secret_of config client) authenticator attributes
     (account_password config account))
-    (disabled_cause (is_disabled config account))
 
 -- the cause by the attributes
 abbrev pub listed_cause : Configuration → (client : ℕ) → (authenticator : List ℕ) → List Attribute

@@ -1,5 +1,6 @@
 pub mod Request
 pub mod Occurrences
+pub mod Credential
 pub mod Signature
 pub mod Station
 pub mod Status

@@ -90,11 +90,11 @@ fn asker(
         return Err(RejectCause::UnknownAccount);
     };
     let entry = config.entry(account);
-    if let Some(cause) = login_cause(client, authenticator, attributes, &entry.password) {
-        return Err(cause);
-    }
     if entry.disabled {
         return Err(RejectCause::DisabledAccount);
+    }
+    if let Some(cause) = login_cause(client, authenticator, attributes, &entry.password) {
+        return Err(cause);
     }
     Ok(account)
 }

@@ -1,6 +1,6 @@
 ghost use Rattle.std.specs.Prelude.{◌≡◌, ◌≤◌, IfOk, OnErr, is_none, nat_lt};
 ghost use Rattle.rsl_wire.specs.Attributes.{first_of};
-ghost use Rattle.rsl_event.specs.Access.{asks_once, has_eap_message, has_one_password, is_vouched};
+ghost use Rattle.rsl_event.specs.Access.{asks_once, has_one_password, is_vouched};
 ghost use Rattle.rsl_event.specs.Cause.{count_cause};
 ghost use Rattle.rsl_event.specs.Copied.{IsNamed};
 ghost use Rattle.rsl_event.specs.Occurrences.{AreOf, value_of};
@@ -18,9 +18,10 @@ ghost use Rattle.rsl_event.specs.declared.codes.TheConstants.{
 };
 
 use crate::codes::{
-    CHAP_CHALLENGE, CHAP_PASSWORD, EAP_MESSAGE, MESSAGE_AUTHENTICATOR, NAS_IDENTIFIER,
-    NAS_IP_ADDRESS, NAS_IPV6_ADDRESS, PROXY_STATE, USER_NAME, USER_PASSWORD,
+    CHAP_CHALLENGE, CHAP_PASSWORD, MESSAGE_AUTHENTICATOR, NAS_IDENTIFIER, NAS_IP_ADDRESS,
+    NAS_IPV6_ADDRESS, PROXY_STATE, USER_NAME, USER_PASSWORD,
 };
+use crate::credential::has_unchecked_credential;
 use crate::detail::RejectCause;
 use crate::nas::Nas;
 use crate::occurrences::Occurrences;
@@ -100,14 +101,17 @@ impl<'a> AccessAttributes<'a> {
     }
 
     /// The first of the attributes of an ask that does not stand there as often as it has to: exactly one
-    /// User-Name, exactly one password, of either kind, unless the client vouches, and at most one
-    /// CHAP-Challenge.
+    /// User-Name, no unchecked credential of a trusted client, exactly one password, of either kind, unless the
+    /// client vouches, and at most one CHAP-Challenge.
     pub(crate) fn count_cause(&self, client: &Client) -> Option<RejectCause>
         ensures cause { result ≡ count_cause client.now.trusted self.now.all }
         ensures once { is_none result ≡ asks_once client.now.trusted self.now.all }
     {
         if self.names.count != 1 {
             return Some(RejectCause::NotOneName);
+        }
+        if client.trusted && has_unchecked_credential(&self.all) {
+            return Some(RejectCause::UncheckedCredential);
         }
         if !self.has_one_password() && !self.is_vouched(client) {
             return Some(RejectCause::NotOnePassword);
@@ -126,22 +130,11 @@ impl<'a> AccessAttributes<'a> {
         matches!(passwords, (1, 0) | (0, 1))
     }
 
-    /// Whether the client vouches for the request: it is trusted, and there is no password of either kind, and
-    /// no EAP-Message.
+    /// Whether the client vouches for the request: it is trusted, and there is no password of either kind.
     pub(crate) fn is_vouched(&self, client: &Client) -> bool
         ensures { result ≡ is_vouched client.now.trusted self.now.all }
     {
-        client.trusted
-            && self.user_passwords.count == 0
-            && self.chap_passwords.count == 0
-            && !self.has_eap_message()
-    }
-
-    /// Whether there is an EAP-Message.
-    fn has_eap_message(&self) -> bool
-        ensures { result ≡ has_eap_message self.now.all }
-    {
-        self.all.first(EAP_MESSAGE).is_some()
+        client.trusted && self.user_passwords.count == 0 && self.chap_passwords.count == 0
     }
 
     /// The access server of the request, of this client.

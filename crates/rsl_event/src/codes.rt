@@ -28,6 +28,8 @@ pub const FRAMED_PROTOCOL: u8 = 7;
 pub const REPLY_MESSAGE: u8 = 18;
 /// Class (RFC 2865 section 5.25).
 pub const CLASS: u8 = 25;
+/// Vendor-Specific (RFC 2865 section 5.26).
+pub const VENDOR_SPECIFIC: u8 = 26;
 /// Session-Timeout (RFC 2865 section 5.27).
 pub const SESSION_TIMEOUT: u8 = 27;
 /// Idle-Timeout (RFC 2865 section 5.28).
@@ -50,14 +52,42 @@ pub const ACCT_MULTI_SESSION_ID: u8 = 50;
 pub const CHAP_CHALLENGE: u8 = 60;
 /// Port-Limit (RFC 2865 section 5.42).
 pub const PORT_LIMIT: u8 = 62;
+/// ARAP-Password (RFC 2869 section 5.4).
+pub const ARAP_PASSWORD: u8 = 70;
+/// ARAP-Features (RFC 2869 section 5.5).
+pub const ARAP_FEATURES: u8 = 71;
+/// ARAP-Security (RFC 2869 section 5.7).
+pub const ARAP_SECURITY: u8 = 73;
+/// ARAP-Security-Data (RFC 2869 section 5.8).
+pub const ARAP_SECURITY_DATA: u8 = 74;
 /// EAP-Message (RFC 3579 section 3.1).
 pub const EAP_MESSAGE: u8 = 79;
 /// Message-Authenticator (RFC 3579 section 3.2).
 pub const MESSAGE_AUTHENTICATOR: u8 = 80;
+/// ARAP-Challenge-Response (RFC 2869 section 5.15).
+pub const ARAP_CHALLENGE_RESPONSE: u8 = 84;
 /// Acct-Interim-Interval (RFC 2869 section 5.16).
 pub const ACCT_INTERIM_INTERVAL: u8 = 85;
 /// NAS-IPv6-Address (RFC 3162 section 2.1).
 pub const NAS_IPV6_ADDRESS: u8 = 95;
+/// Digest-Response, the first of the Types of Digest (RFC 5090 section 3.1).
+pub const DIGEST_RESPONSE: u8 = 103;
+/// SIP-AOR, the last of the Types of Digest (RFC 5090 section 3.20).
+pub const SIP_AOR: u8 = 122;
+/// PKM-SS-Cert (RFC 5904 section 3.1).
+pub const PKM_SS_CERT: u8 = 137;
+/// PKM-CA-Cert (RFC 5904 section 3.2).
+pub const PKM_CA_CERT: u8 = 138;
+/// Digest-Response by the number of an early draft of RFC 5090, which FreeRADIUS sends.
+pub const DRAFT_DIGEST_RESPONSE: u8 = 206;
+/// Digest-Attributes of that draft.
+pub const DRAFT_DIGEST_ATTRIBUTES: u8 = 207;
+
+/// The number of the vendor Microsoft in a Vendor-Specific (RFC 2548 section 2).
+pub const MICROSOFT: u32 = 311;
+/// The fewest octets of the value of a Vendor-Specific: four of the vendor's number, and one of what the vendor
+/// says (RFC 2865 section 5.26).
+pub const MIN_VENDOR_SPECIFIC_LEN: usize = 5;
 
 /// Acct-Status-Type Start: the session begins (RFC 2866 section 5.1).
 pub const START: u32 = 1;
@@ -90,8 +120,8 @@ const _: () = prove!(
         && ACCOUNTING_REQUEST == 4
         && ACCOUNTING_RESPONSE == 5
 );
-// Types (RFC 2865 section 5, RFC 2866 section 5, RFC 3579 section 3, RFC 2869 section 5.16, RFC 3162
-// section 2.1).
+// Types (RFC 2865 section 5, RFC 2866 section 5, RFC 3579 section 3, RFC 2869 section 5, RFC 3162 section 2.1,
+// RFC 5090 section 3, RFC 5904 section 3).
 const _: () = prove!(
     USER_NAME == 1
         && USER_PASSWORD == 2
@@ -101,6 +131,7 @@ const _: () = prove!(
         && FRAMED_PROTOCOL == 7
         && REPLY_MESSAGE == 18
         && CLASS == 25
+        && VENDOR_SPECIFIC == 26
         && SESSION_TIMEOUT == 27
         && IDLE_TIMEOUT == 28
         && CALLING_STATION_ID == 31
@@ -112,11 +143,24 @@ const _: () = prove!(
         && ACCT_MULTI_SESSION_ID == 50
         && CHAP_CHALLENGE == 60
         && PORT_LIMIT == 62
+        && ARAP_PASSWORD == 70
+        && ARAP_FEATURES == 71
+        && ARAP_SECURITY == 73
+        && ARAP_SECURITY_DATA == 74
         && EAP_MESSAGE == 79
         && MESSAGE_AUTHENTICATOR == 80
+        && ARAP_CHALLENGE_RESPONSE == 84
         && ACCT_INTERIM_INTERVAL == 85
         && NAS_IPV6_ADDRESS == 95
+        && DIGEST_RESPONSE == 103
+        && SIP_AOR == 122
+        && PKM_SS_CERT == 137
+        && PKM_CA_CERT == 138
+        && DRAFT_DIGEST_RESPONSE == 206
+        && DRAFT_DIGEST_ATTRIBUTES == 207
 );
+// A vendor's number (RFC 2548 section 2), and the least length of a Vendor-Specific (RFC 2865 section 5.26).
+const _: () = prove!(MICROSOFT == 311 && MIN_VENDOR_SPECIFIC_LEN == 5);
 // Values of Acct-Status-Type (RFC 2866 section 5.1).
 const _: () = prove!(
     START == 1 && STOP == 2 && INTERIM_UPDATE == 3 && ACCOUNTING_ON == 7 && ACCOUNTING_OFF == 8

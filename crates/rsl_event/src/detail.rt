@@ -7,20 +7,22 @@ pub enum RejectCause {
     Malformed,
     /// It has no User-Name, or more than one.
     NotOneName,
+    /// Its client is trusted, and it has a credential that the server does not check, as of EAP, MS-CHAP, ARAP or
+    /// Digest, or a malformed Vendor-Specific: nobody may have looked at it.
+    UncheckedCredential,
     /// It has no password, or more than one, of both kinds together: User-Password and CHAP-Password.
-    /// A request that authenticates otherwise, as by EAP, has none. One of a trusted client may have none,
-    /// unless it has an EAP-Message.
+    /// A request that authenticates otherwise, as by EAP, has none. One of a trusted client may have none.
     NotOnePassword,
     /// It has more than one CHAP-Challenge.
     SeveralChallenges,
     /// No account has its User-Name.
     UnknownAccount,
+    /// The account is disabled, whatever the password is.
+    DisabledAccount,
     /// The account has no password, and its client does not vouch for the request.
     NoPassword,
     /// Its password is not the account's.
     WrongPassword,
-    /// The account is disabled.
-    DisabledAccount,
 }
 
 /// What counters and log lines say of a request beyond its meaning.

@@ -12,6 +12,7 @@ mod access;
 mod access_attributes;
 mod accounting;
 pub mod codes;
+mod credential;
 mod detail;
 mod event;
 pub mod laws;

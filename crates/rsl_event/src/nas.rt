@@ -19,7 +19,28 @@ pub enum NasName {
 
 impl NasName {
     ghost use Rattle.rsl_event.specs.Copied.{IsNamed};
+    ghost use Rattle.rsl_event.specs.Occurrences.{value_of};
+    ghost use Rattle.rsl_event.specs.Request.{nas_name_of};
     ghost use Rattle.rsl_event.specs.Same.{same_name};
+
+    /// The name of an access server by the value of its NAS-Identifier, else by that of an address, else none. It
+    /// fails only if memory is refused for a copy of the value.
+    pub fn of(
+        alloc: Global,
+        identifier: Option<&[u8]>,
+        address: Option<&[u8]>,
+    ) -> Result<NasName, NoMemory>
+        ensures found { IfOk result (λ name.
+            name ≡ nas_name_of (value_of identifier.entry) (value_of address.entry)) }
+        ensures refused { OnErr result (IsNamed (nas_name_of
+            (value_of identifier.entry) (value_of address.entry))) }
+    {
+        Ok(match (identifier, address) {
+            (Some(identifier), _) => NasName::Identifier(Octets::from_slice(alloc, identifier)?),
+            (None, Some(address)) => NasName::Address(Octets::from_slice(alloc, address)?),
+            (None, None) => NasName::Unnamed,
+        })
+    }
 
     /// Whether the names are equal.
     #[tactic(auto, unfolding(crate::specs::Same::same_name))]

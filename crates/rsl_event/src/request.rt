@@ -11,7 +11,7 @@ use crate::codes::{
 };
 use crate::nas::{Nas, NasName};
 use rsl_accounts::{Config, UnsignedRule};
-use rsl_wire::{ATTR_HEADER_LEN, Attrs, NoMemory, Octets};
+use rsl_wire::{ATTR_HEADER_LEN, Attrs, NoMemory};
 use std::alloc::Global;
 
 /// The access server of a packet of this client: its first NAS-Identifier, else its first address, else
@@ -74,14 +74,10 @@ pub(crate) fn access_server(
     ensures refused { OnErr result (IsNamed (nas_name_of
         (value_of identifier.entry) (value_of address.entry))) }
 {
-    let name = if let Some(identifier) = identifier {
-        NasName::Identifier(Octets::from_slice(alloc, identifier)?)
-    } else if let Some(address) = address {
-        NasName::Address(Octets::from_slice(alloc, address)?)
-    } else {
-        NasName::Unnamed
-    };
-    Ok(Nas { client, name })
+    Ok(Nas {
+        client,
+        name: NasName::of(alloc, identifier, address)?,
+    })
 }
 
 /// The number of the account with this User-Name, if there is one.

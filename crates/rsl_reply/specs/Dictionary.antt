@@ -1,16 +1,24 @@
--- What names stand for: attributes by the table of names, and values by that of their names.
+-- What names stand for, and what has which name, by the rows of a dictionary.
 use Rattle.std.specs.Prelude.{ℕ, ◌==◌, ◌&&◌, if◌then◌else◌, List, [], ◌∷◌, map, Option, None, Some}
 use Rattle.std.specs.Str.{str_eq_ignore_ascii_case}
-use Rattle.rsl_reply.specs.declared.form.Form.{Form}
+use Rattle.rsl_reply.specs.declared.dictionary.Dictionary.{Dictionary}
+use Rattle.rsl_accounts.specs.declared.reply_form.Form.{Form}
 use Rattle.rsl_reply.specs.declared.target.Target.{Target}
-use Rattle.rsl_reply.specs.declared.dictionary.TheConstants.{DICTIONARY, VALUE_NAMES}
 
--- a row of either table
+-- the name of an attribute, its vendor's number, its Type, and the form of its values
 abbrev pub Row : Type 0
 Row = List ℕ × ℕ × ℕ × Form
 
+-- the vendor's number and the Type of an attribute, the name of a value, and its number
 abbrev pub ValueRow : Type 0
-ValueRow = ℕ × List ℕ × ℕ
+ValueRow = ℕ × ℕ × List ℕ × ℕ
+
+-- the rows of a dictionary, as lists
+abbrev pub rows_of : Dictionary → List Row
+rows_of names = map (λ row. (row.0.now, row.1, row.2, row.3)) names.attributes.items
+
+abbrev pub value_rows_of : Dictionary → List ValueRow
+value_rows_of names = map (λ row. (row.0, row.1, row.2.now, row.3)) names.values.items
 
 -- the attribute of the first row with this name, in capitals or not
 abbrev pub attribute_in : List Row → (name : List ℕ) → Option Target
@@ -21,20 +29,20 @@ attribute_in (row ∷ rows) name =
     else attribute_in rows name
 
 -- the attribute that has this name
-unfoldable pub attribute_named : (name : List ℕ) → Option Target
-attribute_named = attribute_in (map (λ row. (row.0.now, row.1, row.2, row.3)) DICTIONARY)
+abbrev pub attribute_named : Dictionary → (name : List ℕ) → Option Target
+attribute_named names name = attribute_in (rows_of names) name
 
--- the number of the first row with this Type and this name
-abbrev pub value_in : List ValueRow → (number : ℕ) → (name : List ℕ) → Option ℕ
-value_in [] number name = None
-value_in (row ∷ rows) number name =
-    if row.0 == number && str_eq_ignore_ascii_case row.1 name
-    then Some row.2
-    else value_in rows number name
+-- the number of the first row with these numbers and this name
+abbrev pub value_in : List ValueRow → (vendor number : ℕ) → (name : List ℕ) → Option ℕ
+value_in [] vendor number name = None
+value_in (row ∷ rows) vendor number name =
+    if row.0 == vendor && row.1 == number && str_eq_ignore_ascii_case row.2 name
+    then Some row.3
+    else value_in rows vendor number name
 
--- the number that this name stands for in an attribute of this Type
-unfoldable pub value_named : (number : ℕ) → (name : List ℕ) → Option ℕ
-value_named = value_in (map (λ row. (row.0, row.1.now, row.2)) VALUE_NAMES)
+-- the number that this name stands for in the attribute with these numbers
+abbrev pub value_named : Dictionary → (vendor number : ℕ) → (name : List ℕ) → Option ℕ
+value_named names vendor number name = value_in (value_rows_of names) vendor number name
 
 -- ---- the way back
 
@@ -47,17 +55,17 @@ name_in (row ∷ rows) vendor number =
     else name_in rows vendor number
 
 -- the name of the attribute with these numbers, and how its values are written
-unfoldable pub name_of : (vendor number : ℕ) → Option (List ℕ × Form)
-name_of = name_in (map (λ row. (row.0.now, row.1, row.2, row.3)) DICTIONARY)
+abbrev pub name_of : Dictionary → (vendor number : ℕ) → Option (List ℕ × Form)
+name_of names vendor number = name_in (rows_of names) vendor number
 
--- the name of the first row with this Type and this number
-abbrev pub value_name_in : List ValueRow → (number value : ℕ) → Option (List ℕ)
-value_name_in [] number value = None
-value_name_in (row ∷ rows) number value =
-    if row.0 == number && row.2 == value
-    then Some row.1
-    else value_name_in rows number value
+-- the name of the first row with these numbers and this value
+abbrev pub value_name_in : List ValueRow → (vendor number value : ℕ) → Option (List ℕ)
+value_name_in [] vendor number value = None
+value_name_in (row ∷ rows) vendor number value =
+    if row.0 == vendor && row.1 == number && row.3 == value
+    then Some row.2
+    else value_name_in rows vendor number value
 
--- the name of this number in an attribute of this Type
-unfoldable pub name_of_value : (number value : ℕ) → Option (List ℕ)
-name_of_value = value_name_in (map (λ row. (row.0, row.1.now, row.2)) VALUE_NAMES)
+-- the name of this value of the attribute with these numbers
+abbrev pub name_of_value : Dictionary → (vendor number value : ℕ) → Option (List ℕ)
+name_of_value names vendor number value = value_name_in (value_rows_of names) vendor number value

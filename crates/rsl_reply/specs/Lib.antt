@@ -1,3 +1,4 @@
+pub mod Attribute
 pub mod Dictionary
 pub mod Naming
 pub mod Reading

@@ -2,9 +2,10 @@
 use Rattle.std.specs.Prelude.{ℕ, ◌==◌, ◌&&◌, Bool, true, false, if◌then◌else◌, List, codes, bytes_eq, Option, None, Some}
 use Rattle.std.specs.List.{list_any}
 use Rattle.std.specs.Option.{option_or}
-use Rattle.rsl_reply.specs.declared.form.Form.{Form}
-use Rattle.rsl_reply.specs.declared.form.Form.TheVariants.{Octets, TaggedNumber, TaggedText}
-use Rattle.rsl_reply.specs.declared.dictionary.TheConstants.{SERVERS_OWN}
+use Rattle.rsl_accounts.specs.declared.reply_form.Form.{Form}
+use Rattle.rsl_accounts.specs.declared.reply_form.Form.TheVariants.{Octets, TaggedNumber, TaggedText}
+use Rattle.rsl_reply.specs.declared.dictionary.Dictionary.{Dictionary}
+use Rattle.rsl_reply.specs.declared.naming.TheConstants.{SERVERS_OWN}
 use Rattle.rsl_reply.specs.declared.target.Target.{Target}
 use Rattle.rsl_reply.specs.Dictionary.{attribute_named}
 use Rattle.rsl_reply.specs.Words.{◌>>=◌, rest_after, split_at, up_to}
@@ -42,21 +43,21 @@ has_tag TaggedText = true
 has_tag _ = false
 
 -- a name, a colon and a tag from 1 to 31
-unfoldable pub tagged_target : (front tag : List ℕ) → Option Target
-tagged_target front tag = do
-  target ← attribute_named front
+unfoldable pub tagged_target : Dictionary → (front tag : List ℕ) → Option Target
+tagged_target names front tag = do
+  target ← attribute_named names front
   number ← up_to 31 tag
   if has_tag target.form then Some (record target { tag = number }) else None
 
-unfoldable pub plain_target : (name : List ℕ) → Option Target
-plain_target name = option_or (attribute_numbered name) (attribute_named name)
+unfoldable pub plain_target : Dictionary → (name : List ℕ) → Option Target
+plain_target names name = option_or (attribute_numbered name) (attribute_named names name)
 
-abbrev pub target_by : Option (List ℕ × List ℕ) → (name : List ℕ) → Option Target
-target_by None name = plain_target name
-target_by (Some parts) name = tagged_target parts.0 parts.1
+abbrev pub target_by : Dictionary → Option (List ℕ × List ℕ) → (name : List ℕ) → Option Target
+target_by names None name = plain_target names name
+target_by names (Some parts) name = tagged_target names parts.0 parts.1
 
-unfoldable pub target_of : (name : List ℕ) → Option Target
-target_of name = target_by (split_at 58 name) name
+unfoldable pub target_of : Dictionary → (name : List ℕ) → Option Target
+target_of names name = target_by names (split_at 58 name) name
 
 -- whether the server sets it itself, or counts by it
 abbrev pub is_servers : Target → Bool

@@ -1,314 +1,85 @@
-use crate::form::Form;
+//! Dictionaries: what names stand for, and what has which name.
+ghost use Rattle.std.specs.Prelude.{◌≡◌, ◌++◌, [], OnOk, option_copied, option_map};
+ghost use Rattle.rsl_reply.specs.Dictionary.{
+  attribute_named,
+  name_of,
+  name_of_value,
+  value_named,
+};
 
-/// The attributes that have a name: the name, its vendor's number (RFC 2865 section 5.26; 0 for none), the
-/// Type, and how a value is written. Each stands under the RFC that defines it, or under its vendor. Of RFC
-/// 2866 none may stand in an accept.
-pub(crate) const DICTIONARY: [(&str, u32, u8, Form); 201] = [
-    // RFC 2865.
-    ("User-Name", 0, 1, Form::Text),
-    ("Service-Type", 0, 6, Form::Number),
-    ("Framed-Protocol", 0, 7, Form::Number),
-    ("Framed-IP-Address", 0, 8, Form::Ipv4),
-    ("Framed-IP-Netmask", 0, 9, Form::Ipv4),
-    ("Framed-Routing", 0, 10, Form::Number),
-    ("Filter-Id", 0, 11, Form::Text),
-    ("Framed-MTU", 0, 12, Form::Number),
-    ("Framed-Compression", 0, 13, Form::Number),
-    ("Login-IP-Host", 0, 14, Form::Ipv4),
-    ("Login-Service", 0, 15, Form::Number),
-    ("Login-TCP-Port", 0, 16, Form::Number),
-    ("Reply-Message", 0, 18, Form::Text),
-    ("Callback-Number", 0, 19, Form::Text),
-    ("Callback-Id", 0, 20, Form::Text),
-    ("Framed-Route", 0, 22, Form::Text),
-    ("State", 0, 24, Form::Octets),
-    ("Class", 0, 25, Form::Octets),
-    ("Session-Timeout", 0, 27, Form::Number),
-    ("Idle-Timeout", 0, 28, Form::Number),
-    ("Termination-Action", 0, 29, Form::Number),
-    ("Proxy-State", 0, 33, Form::Octets),
-    ("Login-LAT-Service", 0, 34, Form::Text),
-    ("Login-LAT-Node", 0, 35, Form::Text),
-    ("Login-LAT-Group", 0, 36, Form::Octets),
-    ("Framed-AppleTalk-Link", 0, 37, Form::Number),
-    ("Framed-AppleTalk-Network", 0, 38, Form::Number),
-    ("Framed-AppleTalk-Zone", 0, 39, Form::Text),
-    ("Port-Limit", 0, 62, Form::Number),
-    ("Login-LAT-Port", 0, 63, Form::Text),
-    // RFC 4675.
-    ("Egress-VLANID", 0, 56, Form::Number),
-    ("Ingress-Filters", 0, 57, Form::Number),
-    ("Egress-VLAN-Name", 0, 58, Form::Text),
-    ("User-Priority-Table", 0, 59, Form::Octets),
-    // RFC 2868.
-    ("Tunnel-Type", 0, 64, Form::TaggedNumber),
-    ("Tunnel-Medium-Type", 0, 65, Form::TaggedNumber),
-    ("Tunnel-Client-Endpoint", 0, 66, Form::TaggedText),
-    ("Tunnel-Server-Endpoint", 0, 67, Form::TaggedText),
-    ("Tunnel-Private-Group-Id", 0, 81, Form::TaggedText),
-    ("Tunnel-Assignment-Id", 0, 82, Form::TaggedText),
-    ("Tunnel-Preference", 0, 83, Form::TaggedNumber),
-    ("Tunnel-Client-Auth-Id", 0, 90, Form::TaggedText),
-    ("Tunnel-Server-Auth-Id", 0, 91, Form::TaggedText),
-    // RFC 2869.
-    ("Password-Retry", 0, 75, Form::Number),
-    ("Prompt", 0, 76, Form::Number),
-    ("Configuration-Token", 0, 78, Form::Text),
-    ("EAP-Message", 0, 79, Form::Octets),
-    ("Message-Authenticator", 0, 80, Form::Octets),
-    ("Acct-Interim-Interval", 0, 85, Form::Number),
-    ("Framed-Pool", 0, 88, Form::Text),
-    // RFC 4372.
-    ("Chargeable-User-Identity", 0, 89, Form::Octets),
-    // RFC 4849.
-    ("NAS-Filter-Rule", 0, 92, Form::Text),
-    // RFC 3162.
-    ("Framed-Interface-Id", 0, 96, Form::Octets),
-    ("Framed-IPv6-Prefix", 0, 97, Form::Ipv6Prefix),
-    ("Login-IPv6-Host", 0, 98, Form::Ipv6),
-    ("Framed-IPv6-Route", 0, 99, Form::Text),
-    ("Framed-IPv6-Pool", 0, 100, Form::Text),
-    // RFC 4818.
-    ("Delegated-IPv6-Prefix", 0, 123, Form::Ipv6Prefix),
-    // RFC 6911.
-    ("Framed-IPv6-Address", 0, 168, Form::Ipv6),
-    ("DNS-Server-IPv6-Address", 0, 169, Form::Ipv6),
-    ("Route-IPv6-Information", 0, 170, Form::Ipv6Prefix),
-    ("Delegated-IPv6-Prefix-Pool", 0, 171, Form::Text),
-    ("Stateful-IPv6-Address-Pool", 0, 172, Form::Text),
-    // MikroTik.
-    ("Mikrotik-Recv-Limit", 14988, 1, Form::Number),
-    ("Mikrotik-Xmit-Limit", 14988, 2, Form::Number),
-    ("Mikrotik-Group", 14988, 3, Form::Text),
-    ("Mikrotik-Wireless-Forward", 14988, 4, Form::Number),
-    ("Mikrotik-Wireless-Skip-Dot1x", 14988, 5, Form::Number),
-    ("Mikrotik-Wireless-Enc-Algo", 14988, 6, Form::Number),
-    ("Mikrotik-Wireless-Enc-Key", 14988, 7, Form::Text),
-    ("Mikrotik-Rate-Limit", 14988, 8, Form::Text),
-    ("Mikrotik-Realm", 14988, 9, Form::Text),
-    ("Mikrotik-Host-IP", 14988, 10, Form::Ipv4),
-    ("Mikrotik-Mark-Id", 14988, 11, Form::Text),
-    ("Mikrotik-Advertise-URL", 14988, 12, Form::Text),
-    ("Mikrotik-Advertise-Interval", 14988, 13, Form::Number),
-    ("Mikrotik-Recv-Limit-Gigawords", 14988, 14, Form::Number),
-    ("Mikrotik-Xmit-Limit-Gigawords", 14988, 15, Form::Number),
-    ("Mikrotik-Wireless-PSK", 14988, 16, Form::Text),
-    ("Mikrotik-Total-Limit", 14988, 17, Form::Number),
-    ("Mikrotik-Total-Limit-Gigawords", 14988, 18, Form::Number),
-    ("Mikrotik-Address-List", 14988, 19, Form::Text),
-    ("Mikrotik-Wireless-MPKey", 14988, 20, Form::Text),
-    ("Mikrotik-Wireless-Comment", 14988, 21, Form::Text),
-    ("Mikrotik-Delegated-IPv6-Pool", 14988, 22, Form::Text),
-    ("Mikrotik-DHCP-Option-Set", 14988, 23, Form::Text),
-    ("Mikrotik-DHCP-Option-Param-STR1", 14988, 24, Form::Text),
-    ("Mikrotik-DHCP-Option-Param-STR2", 14988, 25, Form::Text),
-    ("Mikrotik-Wireless-VLANID", 14988, 26, Form::Number),
-    ("Mikrotik-Wireless-VLANIDtype", 14988, 27, Form::Number),
-    ("Mikrotik-Wireless-Minsignal", 14988, 28, Form::Text),
-    ("Mikrotik-Wireless-Maxsignal", 14988, 29, Form::Text),
-    ("Mikrotik-Switching-Filter", 14988, 30, Form::Text),
-    // Cisco.
-    ("Cisco-AVPair", 9, 1, Form::Text),
-    ("Cisco-Policy-Up", 9, 37, Form::Text),
-    ("Cisco-Policy-Down", 9, 38, Form::Text),
-    ("Cisco-Service-Name", 9, 51, Form::Text),
-    ("Cisco-Sub-QoS-Pol-In", 9, 55, Form::Text),
-    ("Cisco-Sub-QoS-Pol-Out", 9, 56, Form::Text),
-    ("Cisco-In-ACL", 9, 57, Form::Text),
-    ("Cisco-Out-ACL", 9, 58, Form::Text),
-    ("Cisco-IPv6-In-ACL", 9, 61, Form::Text),
-    ("Cisco-IPv6-Out-ACL", 9, 62, Form::Text),
-    ("Cisco-Sub-Activate-Service", 9, 60, Form::Text),
-    ("Cisco-Account-Info", 9, 250, Form::Text),
-    ("Cisco-Service-Info", 9, 251, Form::Text),
-    ("Cisco-Control-Info", 9, 253, Form::Text),
-    // Juniper.
-    ("Juniper-Local-User-Name", 2636, 1, Form::Text),
-    ("Juniper-Allow-Commands", 2636, 2, Form::Text),
-    ("Juniper-Deny-Commands", 2636, 3, Form::Text),
-    ("Juniper-Allow-Configuration", 2636, 4, Form::Text),
-    ("Juniper-Deny-Configuration", 2636, 5, Form::Text),
-    ("Juniper-User-Permissions", 2636, 10, Form::Text),
-    ("Juniper-Primary-Dns", 2636, 31, Form::Ipv4),
-    ("Juniper-Secondary-Dns", 2636, 33, Form::Ipv4),
-    ("Juniper-Ip-Pool-Name", 2636, 36, Form::Text),
-    ("Juniper-CoS-Traffic-Control-Profile", 2636, 38, Form::Text),
-    ("Juniper-CoS-Parameter", 2636, 39, Form::Text),
-    ("Juniper-Firewall-filter-name", 2636, 44, Form::Text),
-    ("Juniper-Policer-Parameter", 2636, 45, Form::Text),
-    ("Juniper-Switching-Filter", 2636, 48, Form::Text),
-    ("Juniper-VoIP-Vlan", 2636, 49, Form::Text),
-    ("Juniper-CWA-Redirect", 2636, 50, Form::Text),
-    ("Juniper-AV-Pair", 2636, 52, Form::Text),
-    // Juniper's ERX.
-    ("ERX-Virtual-Router-Name", 4874, 1, Form::Text),
-    ("ERX-Address-Pool-Name", 4874, 2, Form::Text),
-    ("ERX-Local-Loopback-Interface", 4874, 3, Form::Text),
-    ("ERX-Primary-Dns", 4874, 4, Form::Ipv4),
-    ("ERX-Secondary-Dns", 4874, 5, Form::Ipv4),
-    ("ERX-Ingress-Policy-Name", 4874, 10, Form::Text),
-    ("ERX-Egress-Policy-Name", 4874, 11, Form::Text),
-    ("ERX-Ingress-Statistics", 4874, 12, Form::Number),
-    ("ERX-Egress-Statistics", 4874, 13, Form::Number),
-    ("ERX-Igmp-Enable", 4874, 23, Form::Number),
-    ("ERX-Redirect-VR-Name", 4874, 25, Form::Text),
-    ("ERX-Qos-Profile-Name", 4874, 26, Form::Text),
-    ("ERX-Pppoe-Max-Sessions", 4874, 27, Form::Number),
-    ("ERX-IpV6-Virtual-Router", 4874, 45, Form::Text),
-    ("ERX-IpV6-Local-Interface", 4874, 46, Form::Text),
-    ("ERX-Ipv6-Primary-Dns", 4874, 47, Form::Ipv6),
-    ("ERX-Ipv6-Secondary-Dns", 4874, 48, Form::Ipv6),
-    ("ERX-Service-Activate", 4874, 65, Form::TaggedText),
-    ("ERX-Service-Deactivate", 4874, 66, Form::Text),
-    ("ERX-Service-Volume", 4874, 67, Form::TaggedNumber),
-    ("ERX-Service-Timeout", 4874, 68, Form::TaggedNumber),
-    ("ERX-Service-Statistics", 4874, 69, Form::TaggedNumber),
-    ("ERX-Qos-Parameters", 4874, 82, Form::Text),
-    ("ERX-IPv6-Ingress-Policy-Name", 4874, 106, Form::Text),
-    ("ERX-IPv6-Egress-Policy-Name", 4874, 107, Form::Text),
-    ("ERX-IPv6-Delegated-Pool-Name", 4874, 161, Form::Text),
-    // Huawei.
-    ("Huawei-Input-Burst-Size", 2011, 1, Form::Number),
-    ("Huawei-Input-Average-Rate", 2011, 2, Form::Number),
-    ("Huawei-Input-Peak-Rate", 2011, 3, Form::Number),
-    ("Huawei-Output-Burst-Size", 2011, 4, Form::Number),
-    ("Huawei-Output-Average-Rate", 2011, 5, Form::Number),
-    ("Huawei-Output-Peak-Rate", 2011, 6, Form::Number),
-    ("Huawei-Remanent-Volume", 2011, 15, Form::Number),
-    ("Huawei-Priority", 2011, 22, Form::Number),
-    ("Huawei-PortalURL", 2011, 27, Form::Text),
-    ("Huawei-Exec-Privilege", 2011, 29, Form::Number),
-    ("Huawei-Qos-Profile-Name", 2011, 31, Form::Text),
-    ("Huawei-Up-Priority", 2011, 61, Form::Number),
-    ("Huawei-Down-Priority", 2011, 62, Form::Number),
-    ("Huawei-Data-Filter", 2011, 82, Form::Text),
-    ("Huawei-Framed-Pool", 2011, 88, Form::Text),
-    ("Huawei-VPN-Instance", 2011, 94, Form::Text),
-    ("Huawei-Policy-Name", 2011, 95, Form::Text),
-    ("Huawei-Primary-DNS", 2011, 135, Form::Ipv4),
-    ("Huawei-Secondary-DNS", 2011, 136, Form::Ipv4),
-    ("Huawei-Domain-Name", 2011, 138, Form::Text),
-    // WISPr.
-    ("WISPr-Location-ID", 14122, 1, Form::Text),
-    ("WISPr-Location-Name", 14122, 2, Form::Text),
-    ("WISPr-Logoff-URL", 14122, 3, Form::Text),
-    ("WISPr-Redirection-URL", 14122, 4, Form::Text),
-    ("WISPr-Bandwidth-Min-Up", 14122, 5, Form::Number),
-    ("WISPr-Bandwidth-Min-Down", 14122, 6, Form::Number),
-    ("WISPr-Bandwidth-Max-Up", 14122, 7, Form::Number),
-    ("WISPr-Bandwidth-Max-Down", 14122, 8, Form::Number),
-    ("WISPr-Session-Terminate-Time", 14122, 9, Form::Text),
-    ("WISPr-Session-Terminate-End-Of-Day", 14122, 10, Form::Text),
-    ("WISPr-Billing-Class-Of-Service", 14122, 11, Form::Text),
-    // Nokia.
-    ("Timetra-Access", 6527, 1, Form::Number),
-    ("Timetra-Profile", 6527, 4, Form::Text),
-    ("Alc-Primary-Dns", 6527, 9, Form::Ipv4),
-    ("Alc-Secondary-Dns", 6527, 10, Form::Ipv4),
-    ("Alc-Subsc-ID-Str", 6527, 11, Form::Text),
-    ("Alc-Subsc-Prof-Str", 6527, 12, Form::Text),
-    ("Alc-SLA-Prof-Str", 6527, 13, Form::Text),
-    ("Alc-ANCP-Str", 6527, 16, Form::Text),
-    ("Alc-Retail-Serv-Id", 6527, 17, Form::Number),
-    ("Alc-Default-Router", 6527, 18, Form::Ipv4),
-    ("Alc-Int-Dest-Id-Str", 6527, 28, Form::Text),
-    ("Alc-MSAP-Serv-Id", 6527, 31, Form::Number),
-    ("Alc-MSAP-Policy", 6527, 32, Form::Text),
-    ("Alc-MSAP-Interface", 6527, 33, Form::Text),
-    ("Alc-App-Prof-Str", 6527, 45, Form::Text),
-    ("Alc-Ipv6-Primary-Dns", 6527, 105, Form::Ipv6),
-    ("Alc-Ipv6-Secondary-Dns", 6527, 106, Form::Ipv6),
-    ("Alc-Delegated-IPv6-Pool", 6527, 131, Form::Text),
-    ("Alc-SLAAC-IPv6-Pool", 6527, 181, Form::Text),
-    ("Alc-Subscriber-QoS-Override", 6527, 126, Form::Text),
-];
+use crate::lookup::{attribute_in, name_in, value_in, value_name_in};
+use crate::target::Target;
+use rsl_accounts::Form;
+use rsl_wire::NoMemory;
+use std::alloc::Global;
 
-/// The names of values: the Type of an attribute without a vendor, the name, and the number.
-pub(crate) const VALUE_NAMES: [(u8, &str, u32); 71] = [
-    // Service-Type.
-    (6, "Login-User", 1),
-    (6, "Framed-User", 2),
-    (6, "Callback-Login-User", 3),
-    (6, "Callback-Framed-User", 4),
-    (6, "Outbound-User", 5),
-    (6, "Administrative-User", 6),
-    (6, "NAS-Prompt-User", 7),
-    (6, "Authenticate-Only", 8),
-    (6, "Callback-NAS-Prompt", 9),
-    (6, "Call-Check", 10),
-    (6, "Callback-Administrative", 11),
-    // Framed-Protocol.
-    (7, "PPP", 1),
-    (7, "SLIP", 2),
-    (7, "ARAP", 3),
-    (7, "Gandalf-SLML", 4),
-    (7, "Xylogics-IPX-SLIP", 5),
-    (7, "X.75-Synchronous", 6),
-    // Framed-Routing.
-    (10, "None", 0),
-    (10, "Broadcast", 1),
-    (10, "Listen", 2),
-    (10, "Broadcast-Listen", 3),
-    // Framed-Compression.
-    (13, "None", 0),
-    (13, "Van-Jacobson-TCP-IP", 1),
-    (13, "IPX-Header-Compression", 2),
-    (13, "Stac-LZS", 3),
-    // Login-Service.
-    (15, "Telnet", 0),
-    (15, "Rlogin", 1),
-    (15, "TCP-Clear", 2),
-    (15, "PortMaster", 3),
-    (15, "LAT", 4),
-    (15, "X25-PAD", 5),
-    (15, "X25-T3POS", 6),
-    (15, "TCP-Clear-Quiet", 8),
-    // Login-TCP-Port.
-    (16, "Telnet", 23),
-    (16, "Rlogin", 513),
-    (16, "Rsh", 514),
-    // Termination-Action.
-    (29, "Default", 0),
-    (29, "RADIUS-Request", 1),
-    // Ingress-Filters.
-    (57, "Enabled", 1),
-    (57, "Disabled", 2),
-    // Tunnel-Type.
-    (64, "PPTP", 1),
-    (64, "L2F", 2),
-    (64, "L2TP", 3),
-    (64, "ATMP", 4),
-    (64, "VTP", 5),
-    (64, "AH", 6),
-    (64, "IP", 7),
-    (64, "MIN-IP", 8),
-    (64, "ESP", 9),
-    (64, "GRE", 10),
-    (64, "DVS", 11),
-    (64, "IP-in-IP", 12),
-    (64, "VLAN", 13),
-    // Tunnel-Medium-Type.
-    (65, "IP", 1),
-    (65, "IPv4", 1),
-    (65, "IPv6", 2),
-    (65, "NSAP", 3),
-    (65, "HDLC", 4),
-    (65, "BBN-1822", 5),
-    (65, "IEEE-802", 6),
-    (65, "E.163", 7),
-    (65, "E.164", 8),
-    (65, "F.69", 9),
-    (65, "X.121", 10),
-    (65, "IPX", 11),
-    (65, "Appletalk", 12),
-    (65, "DecNet-IV", 13),
-    (65, "Banyan-Vines", 14),
-    (65, "E.164-NSAP", 15),
-    // Prompt.
-    (76, "No-Echo", 0),
-    (76, "Echo", 1),
-];
+/// The name of an attribute, its vendor's number (RFC 2865 section 5.26; 0 for none), the Type, and how a
+/// value is written.
+pub type AttributeRow = (&'static str, u32, u8, Form);
 
-/// The Types that the server sets itself, or counts by: User-Name, State, Class, Proxy-State,
-/// Port-Limit, EAP-Message, Message-Authenticator and Acct-Interim-Interval.
-pub(crate) const SERVERS_OWN: [u8; 8] = [1, 24, 25, 33, 62, 79, 80, 85];
+/// The vendor's number and the Type of an attribute, the name of a value, and the number that it stands for.
+pub type ValueRow = (u32, u8, &'static str, u32);
+
+/// The names that texts may use, as rows: of attributes, and of their values. The programs have them from
+/// `rsl_dictionary`; all below takes them as a value, so no clause there speaks of a row. Of rows with one
+/// name, or with the same numbers, the first counts.
+#[derive(Drop)]
+pub struct Dictionary {
+    attributes: Vec<AttributeRow>,
+    values: Vec<ValueRow>,
+}
+
+impl Dictionary {
+    /// A dictionary without rows.
+    pub fn new(alloc: Global) -> Dictionary
+        ensures attributes { result.attributes.items ≡ [] }
+        ensures values { result.values.items ≡ [] }
+    {
+        Dictionary {
+            attributes: Vec::new(alloc),
+            values: Vec::new(alloc),
+        }
+    }
+
+    /// Adds rows, after those that are there. It fails only where memory is refused.
+    pub fn add(&mut self, attributes: &[AttributeRow], values: &[ValueRow]) -> Result<(), NoMemory>
+        ensures attributes { OnOk result (self.new.attributes.items ≡
+            self.old.attributes.items ++ attributes.now) }
+        ensures values { OnOk result (self.new.values.items ≡
+            self.old.values.items ++ values.now) }
+    {
+        self.attributes.extend_from_slice(attributes)?;
+        self.values.extend_from_slice(values)?;
+        Ok(())
+    }
+
+    /// The attribute that has this name, in capitals or not.
+    pub(crate) fn attribute_named(&self, name: &str) -> Option<Target>
+        ensures { result ≡ attribute_named self.now name.now }
+    {
+        attribute_in(self.attributes.as_slice(), name)
+    }
+
+    /// The number that a name stands for in the attribute with these numbers.
+    pub(crate) fn value_named(&self, vendor: u32, number: u8, name: &str) -> Option<u32>
+        ensures { result ≡ value_named self.now vendor number name.now }
+    {
+        value_in(self.values.as_slice(), vendor, number, name)
+    }
+
+    /// The name of the attribute of this Type, and how its values are written. `vendor` is the vendor's number
+    /// (RFC 2865 section 5.26), or 0. None: the dictionary has no such attribute.
+    pub fn name_of(&self, vendor: u32, number: u8) -> Option<(&'static str, Form)>
+        ensures { option_map (λ found. (found.0.now, found.1)) result ≡
+            name_of self.now vendor number }
+    {
+        name_in(self.attributes.as_slice(), vendor, number)
+    }
+
+    /// The name of a number in the attribute with these numbers. None: the dictionary has none.
+    pub fn name_of_value(&self, vendor: u32, number: u8, value: u32) -> Option<&'static str>
+        ensures { option_copied result ≡ name_of_value self.now vendor number value }
+    {
+        value_name_in(self.values.as_slice(), vendor, number, value)
+    }
+}

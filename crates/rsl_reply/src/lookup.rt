@@ -1,52 +1,13 @@
-//! What names stand for, and what has which name, by the tables.
+//! What rows have, found from the first on.
 ghost use Rattle.std.specs.Prelude.{◌≡◌, map, option_copied, option_map};
 ghost use Rattle.std.specs.Str.{str_eq_ignore_ascii_case};
-ghost use Rattle.rsl_reply.specs.Dictionary.{
-  attribute_in,
-  attribute_named,
-  name_in,
-  name_of,
-  name_of_value,
-  value_in,
-  value_name_in,
-  value_named,
-};
+ghost use Rattle.rsl_reply.specs.Dictionary.{attribute_in, name_in, value_in, value_name_in};
 
-use crate::dictionary::{DICTIONARY, VALUE_NAMES};
-use crate::form::Form;
 use crate::target::Target;
-
-/// The attribute that has this name, in capitals or not.
-pub(crate) fn attribute_named(name: &str) -> Option<Target>
-    ensures { result ≡ attribute_named name.now }
-{
-    attribute_in(&DICTIONARY, name)
-}
-
-/// The number that a name stands for in an attribute of this Type.
-pub(crate) fn value_named(number: u8, name: &str) -> Option<u32>
-    ensures { result ≡ value_named number name.now }
-{
-    value_in(&VALUE_NAMES, number, name)
-}
-
-/// The name of the attribute of this Type, and how its values are written. `vendor` is the vendor's number
-/// (RFC 2865 section 5.26), or 0. None: the table has no such attribute.
-pub fn name_of(vendor: u32, number: u8) -> Option<(&'static str, Form)>
-    ensures { option_map (λ found. (found.0.now, found.1)) result ≡ name_of vendor number }
-{
-    name_in(&DICTIONARY, vendor, number)
-}
-
-/// The name of a number in an attribute of this Type that is no vendor's. None: the table has none.
-pub fn name_of_value(number: u8, value: u32) -> Option<&'static str>
-    ensures { option_copied result ≡ name_of_value number value }
-{
-    value_name_in(&VALUE_NAMES, number, value)
-}
+use rsl_accounts::Form;
 
 /// The name and the form of the first row with these numbers.
-fn name_in<'a>(
+pub(crate) fn name_in<'a>(
     mut rows: &[(&'a str, u32, u8, Form)],
     vendor: u32,
     number: u8,
@@ -63,14 +24,20 @@ fn name_in<'a>(
     None
 }
 
-/// The name of the first row with this Type and this number.
-fn value_name_in<'a>(mut rows: &[(u8, &'a str, u32)], number: u8, value: u32) -> Option<&'a str>
+/// The name of the first row with these numbers and this value.
+pub(crate) fn value_name_in<'a>(
+    mut rows: &[(u32, u8, &'a str, u32)],
+    vendor: u32,
+    number: u8,
+    value: u32,
+) -> Option<&'a str>
     ensures { option_copied result ≡
-        value_name_in (map (λ row. (row.0, row.1.now, row.2)) rows.entry.now) number value }
+        value_name_in (map (λ row. (row.0, row.1, row.2.now, row.3)) rows.entry.now)
+        vendor number value }
 {
     while let [row, rest @ ..] = rows {
-        if row.0 == number && row.2 == value {
-            return Some(row.1);
+        if row.0 == vendor && row.1 == number && row.3 == value {
+            return Some(row.2);
         }
         rows = rest;
     }
@@ -78,7 +45,7 @@ fn value_name_in<'a>(mut rows: &[(u8, &'a str, u32)], number: u8, value: u32) ->
 }
 
 /// The attribute of the first row with this name.
-fn attribute_in(mut rows: &[(&str, u32, u8, Form)], name: &str) -> Option<Target>
+pub(crate) fn attribute_in(mut rows: &[(&str, u32, u8, Form)], name: &str) -> Option<Target>
     ensures { result ≡
         attribute_in (map (λ row. (row.0.now, row.1, row.2, row.3)) rows.entry.now) name.now }
 {
@@ -96,14 +63,20 @@ fn attribute_in(mut rows: &[(&str, u32, u8, Form)], name: &str) -> Option<Target
     None
 }
 
-/// The number of the first row with this Type and this name.
-fn value_in(mut rows: &[(u8, &str, u32)], number: u8, name: &str) -> Option<u32>
+/// The number of the first row with these numbers and this name.
+pub(crate) fn value_in(
+    mut rows: &[(u32, u8, &str, u32)],
+    vendor: u32,
+    number: u8,
+    name: &str,
+) -> Option<u32>
     ensures { result ≡
-        value_in (map (λ row. (row.0, row.1.now, row.2)) rows.entry.now) number name.now }
+        value_in (map (λ row. (row.0, row.1, row.2.now, row.3)) rows.entry.now)
+        vendor number name.now }
 {
     while let [row, rest @ ..] = rows {
-        if row.0 == number && is_same_name(row.1, name) {
-            return Some(row.2);
+        if row.0 == vendor && row.1 == number && is_same_name(row.2, name) {
+            return Some(row.3);
         }
         rows = rest;
     }

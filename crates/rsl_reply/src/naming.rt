@@ -14,11 +14,10 @@ ghost use Rattle.rsl_reply.specs.Naming.{
 };
 ghost use Rattle.rsl_reply.specs.Words.{split_at, up_to};
 
-use crate::dictionary::SERVERS_OWN;
-use crate::form::Form;
-use crate::lookup::attribute_named;
+use crate::dictionary::Dictionary;
 use crate::target::Target;
 use crate::words::{rest_after, split_at, up_to};
+use rsl_accounts::Form;
 
 /// The greatest number of a vendor: three octets (RFC 2865 section 5.26).
 const MAX_VENDOR: u32 = 16_777_215;
@@ -29,35 +28,39 @@ const MAX_TYPE: u32 = 255;
 /// The greatest tag (RFC 2868 section 3).
 const MAX_TAG: u32 = 31;
 
-/// The attribute that a name stands for: that of the table, with a tag after a colon where its values
+/// The Types that the server sets itself, or counts by: User-Name, State, Class, Proxy-State,
+/// Port-Limit, EAP-Message, Message-Authenticator and Acct-Interim-Interval.
+const SERVERS_OWN: [u8; 8] = [1, 24, 25, 33, 62, 79, 80, 85];
+
+/// The attribute that a name stands for: that of the dictionary, with a tag after a colon where its values
 /// have one, or `Attr-N`, or `Attr-26.VENDOR.TYPE`.
 #[tactic(auto, unfolding(crate::specs::Naming::target_of))]
-pub(crate) fn target_of(name: &str) -> Option<Target>
-    ensures { result ≡ target_of name.now }
+pub(crate) fn target_of(names: &Dictionary, name: &str) -> Option<Target>
+    ensures { result ≡ target_of names.now name.now }
 {
     match split_at(':', name) {
-        None => plain_target(name),
-        Some((front, tag)) => tagged_target(front, tag),
+        None => plain_target(names, name),
+        Some((front, tag)) => tagged_target(names, front, tag),
     }
 }
 
 /// The attribute that a name without a tag stands for.
 #[tactic(auto, unfolding(crate::specs::Naming::plain_target))]
-fn plain_target(name: &str) -> Option<Target>
-    ensures { result ≡ plain_target name.now }
+fn plain_target(names: &Dictionary, name: &str) -> Option<Target>
+    ensures { result ≡ plain_target names.now name.now }
 {
     match attribute_numbered(name) {
         Some(target) => Some(target),
-        None => attribute_named(name),
+        None => names.attribute_named(name),
     }
 }
 
 /// The attribute that a name with a tag stands for.
 #[tactic(auto, unfolding(crate::specs::Naming::tagged_target))]
-fn tagged_target(front: &str, tag: &str) -> Option<Target>
-    ensures { result ≡ tagged_target front.now tag.now }
+fn tagged_target(names: &Dictionary, front: &str, tag: &str) -> Option<Target>
+    ensures { result ≡ tagged_target names.now front.now tag.now }
 {
-    let target = attribute_named(front)?;
+    let target = names.attribute_named(front)?;
     let tag = tag_of(tag)?;
     if has_tag(target.form) {
         Some(Target {

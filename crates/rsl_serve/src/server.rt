@@ -13,6 +13,7 @@ use crate::{Plan, ServeFault, UdpPort, counts_of};
 use rsl_account_file::read_config_file;
 use rsl_accounts::Config;
 use rsl_record::{Output, table_of};
+use rsl_reply::Dictionary;
 use rsl_service::{Blanks, Closed, Counts, Open, Pass, Service, Tally};
 use std::alloc::Global;
 use std::env::{self, Env};
@@ -24,7 +25,7 @@ use std::sync::Wait;
 use std::thread::Threads;
 use std::time;
 
-/// Serves the accounts of a file: receives RADIUS datagrams on two UDP sockets, for TURNS turns of
+/// Serves the accounts of a file, whose attributes have the names of a dictionary: receives RADIUS datagrams on two UDP sockets, for TURNS turns of
 /// each, and answers them. Then it writes what both receivers did, a line for each, and what each
 /// account holds.
 ///
@@ -37,7 +38,7 @@ use std::time;
 ///
 /// It receives no datagram in the second of its start, which is its boot number. What it gives is
 /// its service, closed.
-pub fn serve<R, W: Write>(rt: &R, stdout: &mut W) -> Result<Closed, ServeFault>
+pub fn serve<R, W: Write>(rt: &R, names: &Dictionary, stdout: &mut W) -> Result<Closed, ServeFault>
 where
     R: Env + Files + Net + time::Clock + AllocGlobal + Threads + Wait + Sync,
     // What is written is what the receivers did and what the accounts hold, and nothing else; the
@@ -49,13 +50,13 @@ where
     ensures silent { IfErr result (λ fault.
         fault ≢ ServeFault.InputOutput → Keeps (W.contents stdout.old) (W.contents stdout.new)) }
 {
-    let served = run_server(rt)?;
+    let served = run_server(rt, names)?;
     served.output.write(stdout)?;
     Ok(served.closed)
 }
 
 /// Runs a server by its arguments.
-fn run_server<R>(rt: &R) -> Result<Served, ServeFault>
+fn run_server<R>(rt: &R, names: &Dictionary) -> Result<Served, ServeFault>
 where
     R: Env + Files + Net + time::Clock + AllocGlobal + Threads + Wait + Sync,
     ensures { IfOk result (λ served. (turns : ℕ)
@@ -65,7 +66,7 @@ where
     let alloc = rt.alloc();
     let (file, plan) = parse_arguments(rt)?;
     let run_time = RunTime::new(start?, plan.turns);
-    let config = read_config_file(rt, alloc, file.as_str())?;
+    let config = read_config_file(rt, alloc, names, file.as_str())?;
     let sockets = Sockets {
         auth: UdpPort::bind(rt, plan.address, plan.auth)?,
         acct: UdpPort::bind(rt, plan.address, plan.acct)?,

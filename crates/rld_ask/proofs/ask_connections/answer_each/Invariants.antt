@@ -6,6 +6,6 @@ use Rattle.rld_ask.proofs.ask_connections.answer_each.Given as goal
 -- those that had their turn are told, and the others are as they were
 abbrev pub invariant-loop-index : goal.invariant-loop-index
 invariant-loop-index l =
-    AreTold (take l.index l.initial.connections) l.answers (take l.index l.connections)
+    AreTold l.names (take l.index l.initial.connections) l.answers (take l.index l.connections)
     × (drop l.index l.connections ≡ drop l.index l.initial.connections)
     × (l.left ≡ answers_left (take l.index l.initial.connections) l.answers)

@@ -4,4 +4,4 @@ use Rattle.rld_ask.proofs.reply.push_lines.Given as goal
 
 -- what is written, and what is left to write
 abbrev pub invariant-loop-kind : goal.invariant-loop-kind
-invariant-loop-kind l = l.out.items ++ lines_of l.kind-iterator ≡ l.fn.out.items ++ lines_of l.attributes
+invariant-loop-kind l = l.out.items ++ lines_of l.names l.kind-iterator ≡ l.fn.out.items ++ lines_of l.names l.attributes

@@ -8,5 +8,5 @@ use Rattle.rld_attributes.proofs.listed.push_lines.Given as goal
 abbrev pub invariant-loop-kind : goal.invariant-loop-kind
 invariant-loop-kind l = record {
   each : AllByRecursion IsAttribute l.kind-iterator;
-  written : l.out.items ++ listed l.kind-iterator ≡ l.fn.out.items ++ listed l.attributes;
+  written : l.out.items ++ listed l.names l.kind-iterator ≡ l.fn.out.items ++ listed l.names l.attributes;
 }

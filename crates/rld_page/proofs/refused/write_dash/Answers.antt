@@ -1,4 +1,4 @@
-use Rattle.rld_chart.specs.Html.{soft_dash}
+use Rattle.rld_page.specs.Html.{soft_dash}
 use Rattle.rld_values.proofs.Callers.{written_3}
 use Rattle.rld_page.proofs.refused.write_dash.Goals as goal
 

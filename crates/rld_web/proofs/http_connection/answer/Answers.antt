@@ -6,7 +6,6 @@ pub returns : goal.returns
 returns g c =
     let calls = c.advance.ensures.calls.2 in
     record {
-      look = kept _ (λ service. service.look) (λ _ _ _ _ answered. answered.1) _ _ _ calls;
-      taken = kept _ (λ service. service.taken) (λ _ _ _ _ answered. answered.2) _ _ _ calls;
-      place = kept _ (λ service. service.place) (λ _ _ _ _ answered. answered.3) _ _ _ calls;
+      place = kept _ (λ service. service.place) (λ _ _ _ _ answered. answered.1) _ _ _ calls;
+      moment = kept _ (λ service. service.moment) (λ _ _ _ _ answered. answered.2) _ _ _ calls;
     }

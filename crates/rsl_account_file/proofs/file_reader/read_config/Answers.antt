@@ -49,7 +49,7 @@ unfolding configuration_of_file
 returns-clause-ok c =
     IfOk-weaker c.make.result
     (λ config. configuration_of c.in_ok-settings.settings c.in_ok-clients.clients.items c.in_ok-accounts.accounts.items ≡ Ok config)
-    (λ config. configuration_of_text c.args.text.now ≡ Ok config)
+    (λ config. configuration_of_text c.args.names.now c.args.text.now ≡ Ok config)
     (λ config made.
     rw (c.in_ok-file.ensures.ok, c.in_ok-settings.ensures.ok, c.in_ok-shared.ensures.ok, c.in_ok-client_tables.ensures.ok, c.in_ok-account_tables.ensures.ok, c.in_ok-clients.ensures.ok, c.in_ok-accounts.ensures.ok) made)
     c.make.ensures.ok

@@ -3,4 +3,4 @@ use Rattle.std.proofs.lemmas.List.{take_all}
 use Rattle.rld_counts.proofs.end.End.of_ask.Goals as goal
 
 pub returns : goal.returns
-returns c = take_all 10 (drop 42 c.args.all.now) (omega (arith, length-drop 42 c.args.all.now, c))
+returns c = take_all 10 (drop 43 c.args.all.now) (omega (arith, length-drop 43 c.args.all.now, c))

@@ -3,4 +3,4 @@ use Rattle.rld_serve.proofs.server.Server.receive_all.Given as goal
 
 -- the receiver is that of the port
 abbrev pub invariant-loop : goal.invariant-loop
-invariant-loop g l = l.place.receiver.receiver.port ≡ l.port
+invariant-loop g l = l.place.receiver.port ≡ l.port

@@ -3,7 +3,6 @@ use Rattle.rld_web.proofs.http_connection.HttpConnection.take_turn.Given as goal
 
 abbrev pub invariant-loop : goal.invariant-loop
 invariant-loop g l = record {
-  look : l.service.look ≡ l.fn.service.look;
-  taken : l.service.taken ≡ l.fn.service.taken;
   place : l.service.place ≡ l.fn.service.place;
+  moment : l.service.moment ≡ l.fn.service.moment;
 }

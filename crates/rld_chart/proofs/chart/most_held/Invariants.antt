@@ -1,9 +1,0 @@
-use Rattle.std.proofs.Common.{◌≡◌, drop, map}
-use Rattle.std.specs.Prelude.{max}
-use Rattle.rld_chart.specs.Chart.{held_at_end, greatest}
-use Rattle.rld_chart.proofs.chart.most_held.Given as goal
-
--- the greatest is that which was found, or one of those that are left
-abbrev pub invariant-loop-minute : goal.invariant-loop-minute
-invariant-loop-minute l =
-    greatest (map held_at_end l.minutes) ≡ max l.most (greatest (map held_at_end (drop l.minute-index l.minutes)))

@@ -1,3 +1,0 @@
-pub mod Chart
-pub mod Figures
-pub mod Html

@@ -1,0 +1,4 @@
+pub mod Turning
+pub mod Requests
+pub mod Noting
+pub mod Asking

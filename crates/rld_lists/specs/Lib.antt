@@ -1,4 +1,0 @@
-pub mod Accounts
-pub mod Links
-pub mod Listing
-pub mod Words

@@ -1,0 +1,4 @@
+pub mod Arguments
+pub mod Flags
+pub mod Given
+pub mod Waits

@@ -1,0 +1,1 @@
+"""What scripts of tests/programs and bench/ share."""

@@ -1,0 +1,1 @@
+"""Scripts that try programs: each is a part of the gate."""

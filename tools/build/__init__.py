@@ -1,0 +1,1 @@
+"""Builds of the product, proved or not: what its launchers need."""
