@@ -27,6 +27,7 @@ WRITTEN = {
     "It is in [a section](docs/OPERATING.md#nowhere).": "a link to docs/OPERATING.md#nowhere: there is no such heading",
     "It is in radlimits(8).": "there is no manual page radlimits(8)",
     "`bench/nothing.py` measures it.": "there is no bench/nothing.py",
+    "It is dropped as `drop_nothing`.": "`drop_nothing` is no cause of crates/rld_counts/src/cause.rt",
 }
 CHECKS = "from tools.check import documents; print(documents.check().failed)"
 

@@ -33,6 +33,12 @@ WITHOUT_PROMISES = ("rsl_session",)
 DOCUMENT = re.compile(r"(?<![\w./-])([A-Z][A-Z-]+\.md)\b")
 PAGE = re.compile(r"\b(radlimit[\w.-]*)(?: |\"? ?)\((\d)\)")
 
+# a row of the table of causes, and a word of a cause in a document
+CAUSES = "crates/rld_counts/src/cause.rt"
+CAUSE = re.compile(r'^    \(Cause::\w+, Kind::(\w+), "(\w+)", "[^"]+"\),$', re.M)
+WORD = re.compile(r"`((?:drop|reject)_\w+)`")
+SERVED = ("Accepted", "Accounted")
+
 # the list of manual pages of what makes the package, and other names of these
 PAGES = re.compile(r"^PAGES = \[(.*)\]$", re.M)
 ALIASES = re.compile(r"^ALIASES = \{(.*)\}$", re.M)
@@ -116,10 +122,22 @@ def aliases() -> set[str]:
     return {os.path.join("docs", name) for listed in ALIASES.findall(text) for name in QUOTED.findall(listed)[::2]}
 
 
+def faults_of_causes() -> Iterator[str]:
+    """Each cause of a refusal is in docs/OPERATING.md, and no document names a drop or a reject that is none."""
+    kinds = {word: kind for kind, word in CAUSE.findall(text_of(CAUSES))}
+    told = text_of("docs/OPERATING.md")
+    for word, kind in kinds.items():
+        if kind not in SERVED and f"`{word}`" not in told:
+            yield f"docs/OPERATING.md: `{word}` is a cause of {CAUSES}, and is not told"
+    for path in documents():
+        for word in sorted(set(WORD.findall(text_of(path))).difference(kinds)):
+            yield f"{path}: `{word}` is no cause of {CAUSES}"
+
+
 def check() -> Outcome:
     """All documents: one passes where all that it names is there."""
     results = [cited.check()]
-    for fault in missing_documents():
+    for fault in (*missing_documents(), *faults_of_causes()):
         print(fault)
         results.append(comparing.FAILED)
     for path in documents():

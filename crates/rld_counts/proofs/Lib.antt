@@ -1,5 +1,11 @@
 pub mod Callers
 pub mod Tallies
+pub mod Rows
 pub mod Counting
 pub mod Timing
 pub mod Noting
+pub mod Sums
+pub mod Places
+pub mod Readings
+pub mod Meaning
+pub mod Truths

@@ -6,47 +6,47 @@ use Rattle.std.proofs.lemmas.List.{get_or_append_left, get_or-set_same, get_or-s
 use Rattle.std.proofs.Math.Seq.{get_or-append_seam}
 use Rattle.std.proofs.lemmas.List.Elements.{filter_map-append}
 use Rattle.std.specs.List.{cons_option}
-use Rattle.rld_counts.specs.Cell.{AreCounted, AreJoined, CellSeen, HasCounted, HasTimes, ends_of, is_of, without_clients}
+use Rattle.rld_counts.specs.Cell.{AreCounted, AreJoined, CellSeen, HasCounted, HasTimes, fates_of, is_of, without_clients}
 use Rattle.rld_counts.specs.Histogram.{Times, times_of}
 use Rattle.rld_counts.specs.Counts.{counts_of}
-use Rattle.rld_counts.specs.declared.end.End.{End}
-use Rattle.rld_counts.specs.declared.ended.Ended.{Ended}
+use Rattle.rld_counts.specs.declared.fate.Fate.{Fate}
+use Rattle.rld_counts.specs.declared.counted.Counted.{Counted}
 
-filter_append : (test : Ended → Bool) (xs ys : List Ended) → filter test (xs ++ ys) ≡ filter test xs ++ filter test ys
+filter_append : (test : Counted → Bool) (xs ys : List Counted) → filter test (xs ++ ys) ≡ filter test xs ++ filter test ys
 filter_append test [] ys = refl
 filter_append test (x ∷ xs) ys = elim (test x) as (λ (b : Bool). cond b (x ∷ filter test (xs ++ ys)) (filter test (xs ++ ys)) ≡ cond b (x ∷ filter test xs) (filter test xs) ++ filter test ys) [
-  | true ↦ ap (λ (l : List Ended). x ∷ l) (filter_append test xs ys)
+  | true ↦ ap (λ (l : List Counted). x ∷ l) (filter_append test xs ys)
   | false ↦ filter_append test xs ys
 ]
 
-pub ends_append : (xs ys : List Ended) → map (λ one. one.end) (xs ++ ys) ≡ map (λ one. one.end) xs ++ map (λ one. one.end) ys
+pub ends_append : (xs ys : List Counted) → map (λ one. one.fate) (xs ++ ys) ≡ map (λ one. one.fate) xs ++ map (λ one. one.fate) ys
 ends_append [] ys = refl
-ends_append (x ∷ xs) ys = ap (λ (l : List End). x.end ∷ l) (ends_append xs ys)
+ends_append (x ∷ xs) ys = ap (λ (l : List Fate). x.fate ∷ l) (ends_append xs ys)
 
 -- how the datagrams of a client ended, of some and then others
-pub ends_of_append : (client : ℕ) (xs ys : List Ended) → ends_of client (xs ++ ys) ≡ ends_of client xs ++ ends_of client ys
-ends_of_append client xs ys =
-    ap (map (λ one. one.end)) (filter_append (λ one. is_of client one.client) xs ys)
+pub fates_of_append : (client : ℕ) (xs ys : List Counted) → fates_of client (xs ++ ys) ≡ fates_of client xs ++ fates_of client ys
+fates_of_append client xs ys =
+    ap (map (λ one. one.fate)) (filter_append (λ one. is_of client one.client) xs ys)
     ∙ ends_append (filter (λ one. is_of client one.client) xs) (filter (λ one. is_of client one.client) ys)
 
-same_ends : (client : ℕ) (all : List Ended) (ended : Ended) → is_of client ended.client ≡ false → ends_of client (all ++ ended ∷ []) ≡ ends_of client all
+same_ends : (client : ℕ) (all : List Counted) (ended : Counted) → is_of client ended.client ≡ false → fates_of client (all ++ ended ∷ []) ≡ fates_of client all
 same_ends client all ended is =
-    ends_of_append client all (ended ∷ [])
-    ∙ ap (λ (b : Bool). ends_of client all ++ map (λ one. one.end) (cond b (ended ∷ []) [])) is
-    ∙ append-nil (ends_of client all)
+    fates_of_append client all (ended ∷ [])
+    ∙ ap (λ (b : Bool). fates_of client all ++ map (λ one. one.fate) (cond b (ended ∷ []) [])) is
+    ∙ append-nil (fates_of client all)
 
 -- a datagram of no client
-pub none_counted : (all : List Ended) (ended : Ended) (clients : List (List ℕ)) → ended.client ≡ None → AreCounted all clients → AreCounted (all ++ ended ∷ []) clients
+pub none_counted : (all : List Counted) (ended : Counted) (clients : List (List ℕ)) → ended.client ≡ None → AreCounted all clients → AreCounted (all ++ ended ∷ []) clients
 none_counted all ended clients none counted client below =
     counted client below ∙ ap counts_of (sym (same_ends client all ended (ap (is_of client) none)))
 
 -- ---- times
 
-times_append : (xs ys : List Ended) → filter_map (λ one. one.micros) (xs ++ ys) ≡ filter_map (λ one. one.micros) xs ++ filter_map (λ one. one.micros) ys
-times_append xs ys = filter_map-append (λ (one : Ended). one.micros) xs ys
+times_append : (xs ys : List Counted) → filter_map (λ one. one.micros) (xs ++ ys) ≡ filter_map (λ one. one.micros) xs ++ filter_map (λ one. one.micros) ys
+times_append xs ys = filter_map-append (λ (one : Counted). one.micros) xs ys
 
 -- a datagram that was answered, and one that was not
-pub time_counted : (all : List Ended) (ended : Ended) (old new : Times) (micros : ℕ) → ended.micros ≡ Some micros
+pub time_counted : (all : List Counted) (ended : Counted) (old new : Times) (micros : ℕ) → ended.micros ≡ Some micros
     → ((times : List ℕ) → old ≡ times_of times → new ≡ times_of (times ++ micros ∷ []))
     → HasTimes all old → HasTimes (all ++ ended ∷ []) new
 time_counted all ended old new micros is noted was =
@@ -54,7 +54,7 @@ time_counted all ended old new micros is noted was =
     ∙ ap (λ (o : Option ℕ). times_of (filter_map (λ one. one.micros) all ++ cons_option o [])) (sym is)
     ∙ ap times_of (sym (times_append all (ended ∷ [])))
 
-pub none_timed : (all : List Ended) (ended : Ended) (times : Times) → ended.micros ≡ None → HasTimes all times → HasTimes (all ++ ended ∷ []) times
+pub none_timed : (all : List Counted) (ended : Counted) (times : Times) → ended.micros ≡ None → HasTimes all times → HasTimes (all ++ ended ∷ []) times
 none_timed all ended times none was =
     was
     ∙ ap times_of (sym (append-nil (filter_map (λ one. one.micros) all)))
@@ -63,28 +63,28 @@ none_timed all ended times none was =
 
 -- ---- whole cells
 
-pub cell_noted : (all : List Ended) (ended : Ended) (old new : CellSeen)
-    → ((ends : List End) → old.counts ≡ counts_of ends → new.counts ≡ counts_of (ends ++ ended.end ∷ []))
+pub cell_noted : (all : List Counted) (ended : Counted) (old new : CellSeen)
+    → ((ends : List Fate) → old.counts ≡ counts_of ends → new.counts ≡ counts_of (ends ++ ended.fate ∷ []))
     → (AreCounted all old.clients → AreCounted (all ++ ended ∷ []) new.clients)
     → (HasTimes all old.times → HasTimes (all ++ ended ∷ []) new.times)
     → HasCounted all old → HasCounted (all ++ ended ∷ []) new
 cell_noted all ended old new counts clients times was = record {
-  counts = counts (map (λ one. one.end) all) was.counts ∙ ap counts_of (sym (ends_append all (ended ∷ [])));
+  counts = counts (map (λ one. one.fate) all) was.counts ∙ ap counts_of (sym (ends_append all (ended ∷ [])));
   clients = clients was.clients;
   times = times was.times;
 }
 
-pub cell_joined : (all others : List Ended) (old other new : CellSeen)
+pub cell_joined : (all others : List Counted) (old other new : CellSeen)
     → AreJoined old.counts other.counts new.counts
     → length new.clients ≡ length old.clients → length other.clients ≡ length old.clients
     → ((client : ℕ) → client < length new.clients → AreJoined (get_or old.clients client []) (get_or other.clients client []) (get_or new.clients client []))
     → ((times more : List ℕ) → old.times ≡ times_of times → other.times ≡ times_of more → new.times ≡ times_of (times ++ more))
     → HasCounted all old → HasCounted others other → HasCounted (all ++ others) new
 cell_joined all others old other new counts len same clients times was added = record {
-  counts = counts (map (λ one. one.end) all) (map (λ one. one.end) others) was.counts added.counts ∙ ap counts_of (sym (ends_append all others));
+  counts = counts (map (λ one. one.fate) all) (map (λ one. one.fate) others) was.counts added.counts ∙ ap counts_of (sym (ends_append all others));
   clients = λ client below.
-      clients client below (ends_of client all) (ends_of client others) (was.clients client (omega arith)) (added.clients client (omega arith))
-      ∙ ap counts_of (sym (ends_of_append client all others));
+      clients client below (fates_of client all) (fates_of client others) (was.clients client (omega arith)) (added.clients client (omega arith))
+      ∙ ap counts_of (sym (fates_of_append client all others));
   times =
       times (filter_map (λ one. one.micros) all) (filter_map (λ one. one.micros) others) was.times added.times
       ∙ ap times_of (sym (times_append all others));
@@ -130,20 +130,20 @@ rest_same first now client counts rest k above =
 
 -- ---- datagrams whose clients count no more
 
-ends_without : (all : List Ended) → map (λ one. one.end) (without_clients all) ≡ map (λ one. one.end) all
+ends_without : (all : List Counted) → map (λ one. one.fate) (without_clients all) ≡ map (λ one. one.fate) all
 ends_without [] = refl
-ends_without (one ∷ all) = ap (λ (l : List End). one.end ∷ l) (ends_without all)
+ends_without (one ∷ all) = ap (λ (l : List Fate). one.fate ∷ l) (ends_without all)
 
-times_without : (all : List Ended) → filter_map (λ one. one.micros) (without_clients all) ≡ filter_map (λ one. one.micros) all
+times_without : (all : List Counted) → filter_map (λ one. one.micros) (without_clients all) ≡ filter_map (λ one. one.micros) all
 times_without [] = refl
 times_without (one ∷ all) = ap (λ (l : List ℕ). cons_option one.micros l) (times_without all)
 
 -- none of them is a client's
-none_without : (client : ℕ) (all : List Ended) → ends_of client (without_clients all) ≡ []
+none_without : (client : ℕ) (all : List Counted) → fates_of client (without_clients all) ≡ []
 none_without client [] = refl
 none_without client (one ∷ all) = none_without client all
 
-pub cell_renewed : (all : List Ended) (old new : CellSeen) → new.counts ≡ old.counts → AreCounted [] new.clients → new.times ≡ old.times
+pub cell_renewed : (all : List Counted) (old new : CellSeen) → new.counts ≡ old.counts → AreCounted [] new.clients → new.times ≡ old.times
     → HasCounted all old → HasCounted (without_clients all) new
 cell_renewed all old new counts clients times was = record {
   counts = counts ∙ was.counts ∙ ap counts_of (sym (ends_without all));
@@ -151,22 +151,22 @@ cell_renewed all old new counts clients times was = record {
   times = times ∙ was.times ∙ ap times_of (sym (times_without all));
 }
 
-pub cell_joined_in_all : (all others : List Ended) (old other new : CellSeen)
+pub cell_joined_in_all : (all others : List Counted) (old other new : CellSeen)
     → AreJoined old.counts other.counts new.counts
     → new.clients ≡ old.clients
     → ((times more : List ℕ) → old.times ≡ times_of times → other.times ≡ times_of more → new.times ≡ times_of (times ++ more))
     → HasCounted all old → HasCounted others other → HasCounted (all ++ without_clients others) new
 cell_joined_in_all all others old other new counts same times was added = record {
   counts =
-      counts (map (λ one. one.end) all) (map (λ one. one.end) others) was.counts added.counts
-      ∙ ap (λ (l : List End). counts_of (map (λ one. one.end) all ++ l)) (sym (ends_without others))
+      counts (map (λ one. one.fate) all) (map (λ one. one.fate) others) was.counts added.counts
+      ∙ ap (λ (l : List Fate). counts_of (map (λ one. one.fate) all ++ l)) (sym (ends_without others))
       ∙ ap counts_of (sym (ends_append all (without_clients others)));
   clients = λ client below.
       ap (λ (l : List (List ℕ)). get_or l client []) same
       ∙ was.clients client (subst (λ (l : List (List ℕ)). client < length l) same below)
-      ∙ ap counts_of (sym (append-nil (ends_of client all)))
-      ∙ ap (λ (l : List End). counts_of (ends_of client all ++ l)) (sym (none_without client others))
-      ∙ ap counts_of (sym (ends_of_append client all (without_clients others)));
+      ∙ ap counts_of (sym (append-nil (fates_of client all)))
+      ∙ ap (λ (l : List Fate). counts_of (fates_of client all ++ l)) (sym (none_without client others))
+      ∙ ap counts_of (sym (fates_of_append client all (without_clients others)));
   times =
       times (filter_map (λ one. one.micros) all) (filter_map (λ one. one.micros) others) was.times added.times
       ∙ ap (λ (l : List ℕ). times_of (filter_map (λ one. one.micros) all ++ l)) (sym (times_without others))

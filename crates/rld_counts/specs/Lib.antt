@@ -1,5 +1,9 @@
 pub mod Tally
-pub mod Ends
+pub mod Fates
+pub mod Ending
+pub mod Counted
 pub mod Counts
 pub mod Histogram
 pub mod Cell
+pub mod Reading
+pub mod Laws

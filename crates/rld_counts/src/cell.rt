@@ -1,16 +1,18 @@
-ghost use Rattle.std.specs.Prelude.{◌≡◌, ◌<◌, ◌∷◌, ◌++◌, [], IfOk, List, length, slice_get, slice_index_or, ℕ};
-ghost use Rattle.rld_counts.specs.Cell.{AreCounted, AreJoined, HasCounted, HasTimes, without_clients};
-ghost use Rattle.rld_counts.specs.declared.ended.Ended.{Ended as OneEnded};
+ghost use Rattle.std.specs.Prelude.{◌≡◌, ◌<◌, ◌∷◌, ◌++◌, [], IfOk, List, length, map, replicate, slice_get, slice_index_or, ℕ};
+ghost use Rattle.rld_counts.specs.Cell.{AreCounted, AreJoined, HasCounted, HasTimes, for_clients, without_clients};
+ghost use Rattle.rld_counts.specs.Counted.{unread, within};
+ghost use Rattle.rld_counts.specs.declared.counted.Counted.{Counted as OneCounted};
 
 use crate::client_counts::ClientCounts;
+use crate::counted::Counted;
 use crate::counts::Counts;
-use crate::ended::Ended;
+use crate::fate::Fate;
 use crate::histogram::Histogram;
 use std::alloc::{AllocError, Global};
 use std::marker::Model;
 
 /// The counts of a receiver: how its datagrams ended, in total and for each client, and how long
-/// the answers took.
+/// the answers took. They are always those of some datagrams, and of nothing else.
 #[derive(Drop)]
 pub struct Cell {
     counts: Counts,
@@ -19,7 +21,7 @@ pub struct Cell {
 }
 
 impl Model for Cell {
-    ghost use Rattle.rld_counts.specs.Cell.{CellSeen};
+    ghost use Rattle.rld_counts.specs.Cell.{CellSeen, IsCount};
 
     ghost Value = { CellSeen };
 
@@ -28,6 +30,12 @@ impl Model for Cell {
       clients = cell.clients.items;
       times = cell.times;
     } };
+
+    ghost invariant = { λ cell. ∥ IsCount (record {
+      counts = cell.counts;
+      clients = cell.clients.items;
+      times = cell.times;
+    }) ∥₁ };
 }
 
 impl Cell {
@@ -46,30 +54,71 @@ impl Cell {
     }
 
     /// Counts a datagram. One of a client that the cell is not for is counted in the total alone.
-    pub fn note(&mut self, ended: Ended)
-        ensures noted { (all : List OneEnded) → HasCounted all self.old →
-            HasCounted (all ++ ended ∷ []) self.new }
+    pub fn note(&mut self, counted: Counted)
+        ensures noted { (all : List OneCounted) → HasCounted all self.old →
+            HasCounted (all ++ counted ∷ []) self.new }
         ensures clients { length self.new.clients ≡ length self.old.clients }
     {
-        self.counts.note(ended.end);
-        note_client(&mut self.clients, ended);
-        note_time(&mut self.times, ended);
+        self.counts.note(counted.fate);
+        note_client(&mut self.clients, counted);
+        note_time(&mut self.times, counted);
+    }
+
+    /// Counts the datagrams of a turn that took `micros` microseconds, in their order.
+    pub fn note_turn(&mut self, turn: &[Counted], micros: Option<u64>)
+        ensures noted { (all : List OneCounted) → HasCounted all self.old →
+            HasCounted (all ++ map (within micros) turn.now) self.new }
+        ensures clients { length self.new.clients ≡ length self.old.clients }
+    {
+        for counted in turn {
+            self.note(counted.within(micros));
+        }
+    }
+
+    /// Counts requests that were refused unread: `number` of them, with this fate and of no client.
+    pub fn note_unread(&mut self, fate: Fate, number: u64)
+        ensures noted { (all : List OneCounted) → HasCounted all self.old →
+            HasCounted (all ++ replicate number (unread fate)) self.new }
+        ensures clients { length self.new.clients ≡ length self.old.clients }
+    {
+        for _ in 0..number {
+            self.note(Counted {
+                fate,
+                client: None,
+                micros: None,
+            });
+        }
     }
 
     /// Begins to count by client again, since client numbers mean other clients from now on. The
     /// total counts and the times go on; earlier datagrams then belong to no client.
     pub fn renew(&mut self, clients: ClientCounts)
-        ensures anew { (all : List OneEnded) → HasCounted all self.old →
+        ensures anew { (all : List OneCounted) → HasCounted all self.old →
             HasCounted (without_clients all) self.new }
         ensures clients { length self.new.clients ≡ clients }
     {
         self.clients = clients.into_each();
     }
 
-    /// Adds the counts of another receiver for the same clients.
+    /// Adds the counts of another receiver. If they are for another number of clients, its client numbers
+    /// mean other clients, so they are added to the total counts and the times alone.
     pub fn add(&mut self, other: &Cell)
+        ensures added { (all others : List OneCounted) → HasCounted all self.old →
+            HasCounted others other.now →
+            HasCounted (all ++ for_clients (length self.old.clients) other.now others) self.new }
+        ensures clients { length self.new.clients ≡ length self.old.clients }
+    {
+        if other.clients() == self.clients() {
+            self.add_all(other);
+        } else {
+            self.add_in_all(other);
+        }
+    }
+
+    /// Adds the counts of another receiver for the same clients.
+    pub(crate) fn add_all(&mut self, other: &Cell)
         requires { length other.now.clients ≡ length self.old.clients }
-        ensures joined { (all others : List OneEnded) → HasCounted all self.old →
+        ensures joined { (all others : List OneCounted) → HasCounted all self.old →
             HasCounted others other.now → HasCounted (all ++ others) self.new }
         ensures clients { length self.new.clients ≡ length self.old.clients }
     {
@@ -80,8 +129,8 @@ impl Cell {
 
     /// Adds the counts of another receiver for other clients: to the total counts and the times
     /// alone.
-    pub fn add_in_all(&mut self, other: &Cell)
-        ensures joined { (all others : List OneEnded) → HasCounted all self.old →
+    fn add_in_all(&mut self, other: &Cell)
+        ensures joined { (all others : List OneCounted) → HasCounted all self.old →
             HasCounted others other.now → HasCounted (all ++ without_clients others) self.new }
         ensures clients { length self.new.clients ≡ length self.old.clients }
     {
@@ -119,35 +168,35 @@ impl Cell {
 }
 
 /// Counts a datagram for its client.
-fn note_client(clients: &mut Vec<Counts>, ended: Ended)
+fn note_client(clients: &mut Vec<Counts>, counted: Counted)
     ensures len { length clients.new.items ≡ length clients.old.items }
-    ensures noted { (all : List OneEnded) → AreCounted all clients.old.items →
-        AreCounted (all ++ ended ∷ []) clients.new.items }
+    ensures noted { (all : List OneCounted) → AreCounted all clients.old.items →
+        AreCounted (all ++ counted ∷ []) clients.new.items }
 {
-    note_among(clients.as_mut_slice(), ended);
+    note_among(clients.as_mut_slice(), counted);
 }
 
 /// Counts a datagram for its client, if it is among these.
-fn note_among(clients: &mut [Counts], ended: Ended)
+fn note_among(clients: &mut [Counts], counted: Counted)
     ensures len { length clients.new ≡ length clients.old }
-    ensures noted { (all : List OneEnded) → AreCounted all clients.old →
-        AreCounted (all ++ ended ∷ []) clients.new }
+    ensures noted { (all : List OneCounted) → AreCounted all clients.old →
+        AreCounted (all ++ counted ∷ []) clients.new }
 {
-    let Some(client) = ended.client else {
+    let Some(client) = counted.client else {
         return;
     };
     let client = client as usize;
     if client < clients.len() {
-        clients[client].note(ended.end);
+        clients[client].note(counted.fate);
     }
 }
 
 /// Counts the time of a datagram's answer, if it was answered.
-fn note_time(times: &mut Histogram, ended: Ended)
-    ensures { (all : List OneEnded) → HasTimes all times.old →
-        HasTimes (all ++ ended ∷ []) times.new }
+fn note_time(times: &mut Histogram, counted: Counted)
+    ensures { (all : List OneCounted) → HasTimes all times.old →
+        HasTimes (all ++ counted ∷ []) times.new }
 {
-    match ended.micros {
+    match counted.micros {
         Some(micros) => times.note(micros),
         None => {}
     }

@@ -1,5 +1,5 @@
 ghost use Rattle.std.specs.Prelude.{◌≡◌};
-ghost use Rattle.rld_counts.specs.Ends.{is_answer};
+ghost use Rattle.rld_counts.specs.Fates.{is_answer};
 
 /// What became of a datagram.
 #[derive(Clone, Copy)]

@@ -3,9 +3,9 @@ ghost use Rattle.rld_current.specs.Asking.{outcome_noted, said_in};
 ghost use Rattle.rld_current.specs.Noting.{HasKept, HasNoted, noted_if, noted_of};
 
 use rld_ask::{Outcome, Refused};
-use rld_counts::{AskEnd, End as CountedEnd};
+use rld_counts::{Cause, Fate, Gate};
+use rld_look::Watcher;
 use rld_turn::{End, Ended, MAX_BATCH, Watch};
-use rld_watch::Watcher;
 use rsl_event::{Detail, Said};
 use std::alloc::{AllocError, Global};
 use std::sync::Wait;
@@ -77,10 +77,17 @@ impl<'a, R: Wait + Clock> AskWatch<'a, R> {
     /// Counts requests over HTTP that were refused unread.
     pub(crate) fn count_refused(&self, refused: Refused) {
         let Refused { token, other } = refused;
-        self.watcher
-            .count_unread(CountedEnd::Ask(AskEnd::Unauthorized), token);
-        self.watcher
-            .count_unread(CountedEnd::Ask(AskEnd::BadRequest), other);
+        self.count_unread(Cause::Unauthorized, token);
+        self.count_unread(Cause::BadRequest, other);
+    }
+
+    /// Counts this number of requests that were refused unread for this cause.
+    fn count_unread(&self, cause: Cause, number: u64) {
+        let fate = Fate {
+            gate: Gate::Ask,
+            cause,
+        };
+        self.watcher.count_unread(fate, number);
     }
 
     /// How each request ended since it was last to forget, in their order; none where one of them could not be
@@ -126,5 +133,9 @@ impl<R: Wait + Clock> Watch for AskWatch<'_, R> {
     fn note(&mut self, ended: Ended<'_>) {
         self.keep(&ended);
         self.watcher.note(ended);
+    }
+
+    fn finish(&mut self) {
+        self.watcher.finish();
     }
 }

@@ -64,7 +64,7 @@ impl<L: Log + Drop, R: Wait> Shared<'_, L, R> {
     /// The moves are recorded as one batch, at the moment that the clock shows when the turn begins, and in the era
     /// that is present, or not at all. Each datagram is then answered, in the order in which they were taken; one
     /// with a move only if the batch was recorded. If an answer cannot be sent, what was recorded stands. `watch`
-    /// notes first that the turn begins, and then, in that order, how each datagram ended.
+    /// notes first that the turn begins, then, in that order, how each datagram ended, and last that the turn is over.
     pub fn turn<P: PeerPort, C: Clock, W: Watch>(
         &self,
         current: &Current,
@@ -90,6 +90,7 @@ impl<L: Log + Drop, R: Wait> Shared<'_, L, R> {
         let Gathered { moves, port } = receiver.gather(&present, moment, datagrams);
         let recorded = self.record(present.era, moves);
         receiver.answer(&present, &recorded, datagrams, watch);
+        watch.finish();
         Turn { port, recorded }
     }
 

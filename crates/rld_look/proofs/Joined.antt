@@ -1,11 +1,11 @@
 -- What is added to a backlog, one after the other.
 use Rattle.std.proofs.Common.{◌≡◌, ℕ, ◌+◌, List, [], ◌∷◌, ◌++◌, append_assoc, refl, ap, subst, sym, ◌∙◌}
 use Rattle.std.proofs.lemmas.List.{length_push}
-use Rattle.rld_counts.specs.declared.end.End.{End}
-use Rattle.rld_look.specs.Backlog.{AreJoined, AreNoted, BacklogSeen, HasNoted, IsJoined, IsNoted, IsOfBacklogs, empty_backlog, ends_of}
+use Rattle.rld_counts.specs.declared.fate.Fate.{Fate}
+use Rattle.rld_look.specs.Backlog.{AreJoined, AreNoted, BacklogSeen, HasNoted, IsJoined, IsNoted, IsOfBacklogs, empty_backlog, fates_of}
 use Rattle.rld_look.specs.declared.backlog.Noted.{Noted}
 use Rattle.rld_look.specs.declared.refusal.Refusal.{Refusal}
-use Rattle.rld_look.proofs.Noting.{ends_more}
+use Rattle.rld_look.proofs.Noting.{fates_more}
 
 -- one more is noted after the others
 pub noted_after : (refusals : List Refusal) (refusal : Refusal) (old mid new : BacklogSeen) (noted : Noted)
@@ -23,12 +23,12 @@ joined_after [] taken old mid new are is =
 joined_after (one ∷ each) taken old mid new (first, is_first, are) is =
     (first, is_first, joined_after each taken first mid new are is)
 
--- the ends of all that were noted, with that of one more
-pub all_after : (ends : List End) (refusals : List Refusal) (refusal : Refusal) (new : BacklogSeen)
-    → HasNoted ((ends ++ ends_of refusals) ++ refusal.end ∷ []) new → HasNoted (ends ++ ends_of (refusals ++ refusal ∷ [])) new
-all_after ends refusals refusal new =
-    subst (λ (all : List End). HasNoted all new)
-    (append_assoc ends (ends_of refusals) (refusal.end ∷ []) ∙ ap (λ (l : List End). ends ++ l) (sym (ends_more refusals refusal)))
+-- the fates of all that were noted, with that of one more
+pub all_after : (fates : List Fate) (refusals : List Refusal) (refusal : Refusal) (new : BacklogSeen)
+    → HasNoted ((fates ++ fates_of refusals) ++ refusal.fate ∷ []) new → HasNoted (fates ++ fates_of (refusals ++ refusal ∷ [])) new
+all_after fates refusals refusal new =
+    subst (λ (all : List Fate). HasNoted all new)
+    (append_assoc fates (fates_of refusals) (refusal.fate ∷ []) ∙ ap (λ (l : List Fate). fates ++ l) (sym (fates_more refusals refusal)))
 
 -- what was taken of no receiver, and of one more
 pub of_none : IsOfBacklogs 0 empty_backlog

@@ -1,9 +1,9 @@
 -- The refusals that wait for their lines, and the numbers of those that get none.
 use Rattle.std.specs.Prelude.{◌≡◌, ◌≢◌, ℕ, ◌+◌, ◌<◌, ◌≤◌, List, [], ◌∷◌, ◌++◌, length, map}
 use Rattle.rld_counts.specs.Counts.{count_in, counts_of}
-use Rattle.rld_counts.specs.Ends.{number_of}
+use Rattle.rld_counts.specs.Fates.{fate_number}
 use Rattle.rld_counts.specs.Tally.{how_many, kept}
-use Rattle.rld_counts.specs.declared.end.End.{End}
+use Rattle.rld_counts.specs.declared.fate.Fate.{Fate}
 use Rattle.rld_look.specs.declared.backlog.Noted.{Noted}
 use Rattle.rld_look.specs.declared.backlog.Noted.TheVariants.{Waits, LeftOut, NoMemory}
 use Rattle.rld_look.specs.declared.backlog.TheConstants.{MOST_LINES}
@@ -17,33 +17,33 @@ pub record BacklogSeen : Type 0 where
 abbrev pub empty_backlog : BacklogSeen
 empty_backlog = record { waiting = []; left_out = counts_of [] }
 
-abbrev pub ends_of : List Refusal → List End
-ends_of refusals = map (λ one. one.end) refusals
+abbrev pub fates_of : List Refusal → List Fate
+fates_of refusals = map (λ one. one.fate) refusals
 
--- how many of some ends are this one
-abbrev pub of_cause : End → List End → ℕ
-of_cause end ends = how_many (number_of end) (map number_of ends)
+-- how many of some fates are this one
+abbrev pub of_cause : Fate → List Fate → ℕ
+of_cause fate fates = how_many (fate_number fate) (map fate_number fates)
 
 -- the number of refusals of a cause that wait
-abbrev pub lines_of : End → BacklogSeen → ℕ
-lines_of end backlog = of_cause end (ends_of backlog.waiting)
+abbrev pub lines_of : Fate → BacklogSeen → ℕ
+lines_of fate backlog = of_cause fate (fates_of backlog.waiting)
 
 -- another one ended so, and no other count changed
-abbrev pub IsCounted : End → (old new : List ℕ) → Type 0
-IsCounted end old new =
-    (count_in new end ≡ kept (count_in old end + 1))
-    × ((other : End) → other ≢ end → count_in new other ≡ count_in old other)
+abbrev pub IsCounted : Fate → (old new : List ℕ) → Type 0
+IsCounted fate old new =
+    (count_in new fate ≡ kept (count_in old fate + 1))
+    × ((other : Fate) → other ≢ fate → count_in new other ≡ count_in old other)
 
 -- it is left out, and what waits is as before
-abbrev pub IsLeftOut : End → (old new : BacklogSeen) → Type 0
-IsLeftOut end old new = (new.waiting ≡ old.waiting) × IsCounted end old.left_out new.left_out
+abbrev pub IsLeftOut : Fate → (old new : BacklogSeen) → Type 0
+IsLeftOut fate old new = (new.waiting ≡ old.waiting) × IsCounted fate old.left_out new.left_out
 
 -- at most `MOST_LINES` of a cause wait: what comes after them is left out
 abbrev pub IsNoted : Refusal → (old new : BacklogSeen) → Noted → Type 0
 IsNoted refusal old new Waits =
-    (lines_of refusal.end old < MOST_LINES) × (new.waiting ≡ old.waiting ++ refusal ∷ []) × (new.left_out ≡ old.left_out)
-IsNoted refusal old new LeftOut = (MOST_LINES ≤ lines_of refusal.end old) × IsLeftOut refusal.end old new
-IsNoted refusal old new NoMemory = (lines_of refusal.end old < MOST_LINES) × IsLeftOut refusal.end old new
+    (lines_of refusal.fate old < MOST_LINES) × (new.waiting ≡ old.waiting ++ refusal ∷ []) × (new.left_out ≡ old.left_out)
+IsNoted refusal old new LeftOut = (MOST_LINES ≤ lines_of refusal.fate old) × IsLeftOut refusal.fate old new
+IsNoted refusal old new NoMemory = (lines_of refusal.fate old < MOST_LINES) × IsLeftOut refusal.fate old new
 
 -- each of these was noted, one after the other: it waits last, as it is, or it is left out
 abbrev pub AreNoted : List Refusal → (old new : BacklogSeen) → Type 0
@@ -57,7 +57,7 @@ pub record IsJoined (taken old new : BacklogSeen) : Type 0 where
   pub mid : BacklogSeen
   pub noted : AreNoted taken.waiting old mid
   pub waiting : new.waiting ≡ mid.waiting
-  pub left_out : (end : End) → count_in new.left_out end ≡ kept (count_in mid.left_out end + count_in taken.left_out end)
+  pub left_out : (fate : Fate) → count_in new.left_out fate ≡ kept (count_in mid.left_out fate + count_in taken.left_out fate)
 
 -- what was taken from some backlogs is added, one after the other
 abbrev pub AreJoined : (each : List BacklogSeen) → (old new : BacklogSeen) → Type 0
@@ -72,6 +72,6 @@ pub record IsOfBacklogs (number : ℕ) (taken : BacklogSeen) : Type 0 where
 
 -- of all that was noted since it was empty, what is not left out waits, of each cause; and no more
 -- than the most of a cause
-pub record HasNoted (ends : List End) (backlog : BacklogSeen) : Type 0 where
-  pub all : (end : End) → kept (of_cause end ends) ≡ kept (lines_of end backlog + count_in backlog.left_out end)
-  pub few : (end : End) → lines_of end backlog ≤ MOST_LINES
+pub record HasNoted (fates : List Fate) (backlog : BacklogSeen) : Type 0 where
+  pub all : (fate : Fate) → kept (of_cause fate fates) ≡ kept (lines_of fate backlog + count_in backlog.left_out fate)
+  pub few : (fate : Fate) → lines_of fate backlog ≤ MOST_LINES

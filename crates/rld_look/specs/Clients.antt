@@ -4,7 +4,7 @@ use Rattle.rsl_accounts.specs.Configuration.{Configuration}
 use Rattle.rld_counts.specs.Cell.{CellSeen}
 use Rattle.rld_counts.specs.Counts.{count_in, counts_of}
 use Rattle.rld_counts.specs.Tally.{kept}
-use Rattle.rld_counts.specs.declared.end.End.{End}
+use Rattle.rld_counts.specs.declared.fate.Fate.{Fate}
 use Rattle.rld_look.specs.declared.look.ClientLook.{ClientLook}
 
 -- the counts, if there are any, else those of no datagram
@@ -14,8 +14,8 @@ counts_or_none counts = unwrap_or counts (counts_of [])
 -- counts that are the sums of those of two ports
 abbrev pub AreBoth : (auth acct : Option (List ℕ)) → (both : List ℕ) → Type 0
 AreBoth auth acct both =
-    (end : End) → count_in both end
-    ≡ kept (count_in (counts_or_none auth) end + count_in (counts_or_none acct) end)
+    (fate : Fate) → count_in both fate
+    ≡ kept (count_in (counts_or_none auth) fate + count_in (counts_or_none acct) fate)
 
 -- the client with this number: its address, and its counts at both ports
 pub record IsClientLook (config : Configuration) (auth acct : CellSeen) (client : ℕ) (look : ClientLook) : Type 0 where

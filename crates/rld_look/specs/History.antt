@@ -1,8 +1,10 @@
 -- What came in each of the last minutes.
 use Rattle.std.specs.Prelude.{ℕ, ◌-◌, ◌*◌, ◌/◌, ◌^◌, ◌==◌, min, Bool, true, false, List, [], ◌∷◌, ◌++◌, codes, drop, length, slice_get, Option, Some, None, if◌then◌else◌}
 use Rattle.rld_counts.specs.Counts.{count_in}
-use Rattle.rld_counts.specs.Ends.{all_ends, kind_of}
-use Rattle.rld_counts.specs.declared.end.End.{End}
+use Rattle.rld_counts.specs.Fates.{at, causes_at, kind_of}
+use Rattle.rld_counts.specs.declared.cause.Cause.{Cause}
+use Rattle.rld_counts.specs.declared.gate.Gate.{Gate}
+use Rattle.rld_counts.specs.declared.gate.Gate.TheVariants.{Auth, Acct, Ask}
 use Rattle.rld_counts.specs.declared.kind.Kind.{Kind}
 use Rattle.rld_counts.specs.declared.kind.Kind.TheVariants.{Accepted, LimitRejected, Rejected, Accounted, NoAccount, Dropped, Failed}
 use Rattle.rld_look.specs.Totals.{plus}
@@ -40,14 +42,18 @@ with_came came NoAccount number = record { accepts = came.accepts; limit_rejects
 with_came came Dropped number = came
 with_came came Failed number = came
 
--- what has come, added to earlier numbers
-abbrev pub came_after : (counts : List ℕ) → Came → List End → Came
-came_after counts came [] = came
-came_after counts came (end ∷ ends) = came_after counts (with_came came (kind_of end) (count_in counts end)) ends
+-- what has come to a gate and ended for these causes, added to earlier numbers
+abbrev pub came_after : (counts : List ℕ) → Gate → Came → List Cause → Came
+came_after counts gate came [] = came
+came_after counts gate came (cause ∷ causes) =
+    came_after counts gate (with_came came (kind_of cause) (count_in counts (at gate cause))) causes
+
+abbrev pub came_to : (counts : List ℕ) → Gate → Came → Came
+came_to counts gate came = came_after counts gate came (causes_at gate)
 
 -- what has come, from these counts
 abbrev pub came_in : (counts : List ℕ) → Came
-came_in counts = came_after counts no_came all_ends
+came_in counts = came_to counts Ask (came_to counts Acct (came_to counts Auth no_came))
 
 -- a minute: what has come since it began, and the places held at its end
 abbrev pub minute_of : (number : ℕ) → (before after : Came) → (held : ℕ) → Minute

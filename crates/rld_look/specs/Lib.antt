@@ -7,3 +7,4 @@ pub mod History
 pub mod Line
 pub mod Refusal
 pub mod Totals
+pub mod Watched

@@ -6,8 +6,11 @@ use Rattle.std.specs.Net.Text.{ip_text}
 use Rattle.std.specs.declared.net.ip_addr.IpAddr.{IpAddr}
 use Rattle.std.specs.declared.net.ip_addr.IpAddr.TheVariants.{V4, V6}
 use Rattle.rld_counts.specs.Counts.{count_in}
-use Rattle.rld_counts.specs.Ends.{all_ends, kind_of, name_of, port_of}
-use Rattle.rld_counts.specs.declared.end.End.{End}
+use Rattle.rld_counts.specs.Fates.{at, causes_at, kind_of, name_of, word_of}
+use Rattle.rld_counts.specs.declared.cause.Cause.{Cause}
+use Rattle.rld_counts.specs.declared.fate.Fate.{Fate}
+use Rattle.rld_counts.specs.declared.gate.Gate.{Gate}
+use Rattle.rld_counts.specs.declared.gate.Gate.TheVariants.{Auth, Acct, Ask}
 use Rattle.rld_counts.specs.declared.kind.Kind.{Kind}
 use Rattle.rld_counts.specs.declared.kind.Kind.TheVariants as kinds
 use Rattle.rld_values.specs.Values.{dotted, escaped, hex}
@@ -40,8 +43,9 @@ priority_of kinds.Failed = Warning
 
 -- ---- a refusal
 
-unfoldable pub front_words : Sink → End → List ℕ
-front_words sink end = mark_of sink (priority_of (kind_of end)) ++ (codes "refused port=" ++ port_of end)
+unfoldable pub front_words : Sink → Fate → List ℕ
+front_words sink fate =
+    mark_of sink (priority_of (kind_of fate.cause)) ++ (codes "refused port=" ++ word_of fate.gate)
 
 -- an address before a port: one of IPv6 in brackets (RFC 3986 section 3.2.2)
 abbrev pub address_words : IpAddr → List ℕ
@@ -70,8 +74,8 @@ account_words (Some name) = codes " account=" ++ escaped name
 unfoldable pub asker_words : Refusal → List ℕ
 asker_words refusal = nas_words refusal.nas ++ account_words refusal.name
 
-unfoldable pub cause_words : End → List ℕ
-cause_words end = codes " cause=" ++ name_of end
+unfoldable pub cause_words : Cause → List ℕ
+cause_words cause = codes " cause=" ++ name_of cause
 
 abbrev pub held_words : Option Places → List ℕ
 held_words None = codes "\n"
@@ -79,25 +83,28 @@ held_words (Some places) = codes " held=" ++ (decimal places.held ++ (codes "/" 
 
 unfoldable pub line_of : Sink → Refusal → Option Places → List ℕ
 line_of sink refusal places =
-    front_words sink refusal.end ++ (source_words refusal
-    ++ (asker_words refusal ++ (cause_words refusal.end ++ held_words places)))
+    front_words sink refusal.fate ++ (source_words refusal
+    ++ (asker_words refusal ++ (cause_words refusal.fate.cause ++ held_words places)))
 
 -- ---- the refusals that were left out
 
-unfoldable pub number_words : Sink → End → (number : ℕ) → List ℕ
-number_words sink end number = mark_of sink (priority_of (kind_of end)) ++ decimal number
+unfoldable pub number_words : Sink → Cause → (number : ℕ) → List ℕ
+number_words sink cause number = mark_of sink (priority_of (kind_of cause)) ++ decimal number
 
-unfoldable pub more_words : End → List ℕ
-more_words end = codes " more refused port=" ++ port_of end
+unfoldable pub more_words : Gate → List ℕ
+more_words gate = codes " more refused port=" ++ word_of gate
 
-unfoldable pub left_out_line : Sink → End → (number : ℕ) → List ℕ
-left_out_line sink end number = number_words sink end number ++ (more_words end ++ (cause_words end ++ codes "\n"))
+unfoldable pub left_out_line : Sink → Fate → (number : ℕ) → List ℕ
+left_out_line sink fate number =
+    number_words sink fate.cause number ++ (more_words fate.gate ++ (cause_words fate.cause ++ codes "\n"))
 
-abbrev pub left_out_if_any : Sink → End → (number : ℕ) → List ℕ
-left_out_if_any sink end number = if number == 0 then [] else left_out_line sink end number
+abbrev pub left_out_if_any : Sink → Fate → (number : ℕ) → List ℕ
+left_out_if_any sink fate number = if number == 0 then [] else left_out_line sink fate number
 
-abbrev pub left_out_among : Sink → (counts : List ℕ) → List End → List ℕ
-left_out_among sink counts ends = flat_map (λ end. left_out_if_any sink end (count_in counts end)) ends
+abbrev pub left_out_at : Sink → (counts : List ℕ) → Gate → List ℕ
+left_out_at sink counts gate =
+    flat_map (λ cause. left_out_if_any sink (at gate cause) (count_in counts (at gate cause))) (causes_at gate)
 
 unfoldable pub left_out_lines : Sink → (counts : List ℕ) → List ℕ
-left_out_lines sink counts = left_out_among sink counts all_ends
+left_out_lines sink counts =
+    left_out_at sink counts Auth ++ (left_out_at sink counts Acct ++ left_out_at sink counts Ask)

@@ -1,8 +1,8 @@
 -- Which datagrams are refused, and what an operator learns of one.
 use Rattle.std.specs.Prelude.{ℕ, Bool, true, false, List, [], Option, Result, Ok, Err}
 use Rattle.std.specs.Option.{option_or}
-use Rattle.rld_counts.specs.Ends.{kind_of}
-use Rattle.rld_counts.specs.declared.end.End.{End}
+use Rattle.rld_counts.specs.Fates.{kind_of}
+use Rattle.rld_counts.specs.declared.fate.Fate.{Fate}
 use Rattle.rld_counts.specs.declared.kind.Kind.{Kind}
 use Rattle.rld_counts.specs.declared.kind.Kind.TheVariants as kinds
 use Rattle.rsl_event.specs.Request.{nas_name_of}
@@ -24,8 +24,8 @@ is_refused kinds.NoAccount = true
 is_refused kinds.Dropped = true
 is_refused kinds.Failed = true
 
-abbrev pub is_refusal : End → Bool
-is_refusal end = is_refused (kind_of end)
+abbrev pub is_refusal : Fate → Bool
+is_refusal fate = is_refused (kind_of fate.cause)
 
 -- the attributes of a datagram, or none if they cannot be read
 abbrev pub attributes_or_none : Result (List Attribute) ℕ → List Attribute
@@ -54,7 +54,7 @@ refusal_with refused attributes = record {
   nas = nas_name_of (first_of NAS_IDENTIFIER attributes) (address_in attributes);
   name = first_of USER_NAME attributes;
   station = if_station (first_of CALLING_STATION_ID attributes);
-  end = refused.end;
+  fate = refused.fate;
 }
 
 abbrev pub refusal_of : Refused → Refusal

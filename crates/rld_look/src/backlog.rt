@@ -1,10 +1,10 @@
 ghost use Rattle.std.specs.Prelude.{◌≡◌, ◌<◌, ◌≤◌, ◌∷◌, ◌++◌, [], true, false, List, OnErr, OnOk};
-ghost use Rattle.rld_counts.specs.declared.end.End.{End as OneEnd};
-ghost use Rattle.rld_look.specs.Backlog.{AreNoted, HasNoted, IsJoined, IsLeftOut, IsNoted, empty_backlog, ends_of, lines_of};
+ghost use Rattle.rld_counts.specs.declared.fate.Fate.{Fate as OneFate};
+ghost use Rattle.rld_look.specs.Backlog.{AreNoted, HasNoted, IsJoined, IsLeftOut, IsNoted, empty_backlog, fates_of, lines_of};
 ghost use Rattle.rld_look.specs.Refusal.{refusal_of};
 
 use crate::refusal::{Refusal, Refused};
-use rld_counts::{Counts, End};
+use rld_counts::{Counts, Fate};
 use rsl_wire::NoMemory;
 use std::alloc::Global;
 use std::marker::Model;
@@ -38,13 +38,13 @@ pub struct Backlog {
 impl Model for Backlog {
     ghost use Rattle.std.specs.Prelude.{◌≡◌};
     ghost use Rattle.rld_counts.specs.Counts.{counts_of};
-    ghost use Rattle.rld_look.specs.Backlog.{BacklogSeen, ends_of};
+    ghost use Rattle.rld_look.specs.Backlog.{BacklogSeen, fates_of};
 
     ghost Value = { BacklogSeen };
 
     ghost view = { λ it. record { waiting = it.waiting.items; left_out = it.left_out } };
 
-    ghost invariant = { λ it. it.lines ≡ counts_of (ends_of it.waiting.items) };
+    ghost invariant = { λ it. it.lines ≡ counts_of (fates_of it.waiting.items) };
 }
 
 /// What was taken from a backlog: of all that it had noted, what waited, and the counts of what was
@@ -74,20 +74,20 @@ impl Backlog {
     /// else it is left out, and counted.
     pub fn note(&mut self, alloc: Global, refused: &Refused<'_>) -> Noted
         ensures noted { IsNoted (refusal_of refused.now) self.old self.new result }
-        ensures all { (ends : List OneEnd) → HasNoted ends self.old →
-            HasNoted (ends ++ refused.now.end ∷ []) self.new }
+        ensures all { (fates : List OneFate) → HasNoted fates self.old →
+            HasNoted (fates ++ refused.now.fate ∷ []) self.new }
     {
-        if self.is_full(refused.end) {
-            self.left_out.note(refused.end);
+        if self.is_full(refused.fate) {
+            self.left_out.note(refused.fate);
             return Noted::LeftOut;
         }
         match push_refusal(alloc, &mut self.waiting, refused) {
             Ok(()) => {
-                self.lines.note(refused.end);
+                self.lines.note(refused.fate);
                 Noted::Waits
             }
             Err(NoMemory) => {
-                self.left_out.note(refused.end);
+                self.left_out.note(refused.fate);
                 Noted::NoMemory
             }
         }
@@ -95,26 +95,26 @@ impl Backlog {
 
     /// Leaves out a refused datagram if the most of its cause are waiting, and gives whether it
     /// has. Else nothing changes, and it can be noted.
-    pub fn leave_out(&mut self, end: End) -> bool
+    pub fn leave_out(&mut self, fate: Fate) -> bool
         ensures left_out { result ≡ true →
-            (MOST_LINES ≤ lines_of end self.old) × IsLeftOut end self.old self.new }
-        ensures same { result ≡ false → (lines_of end self.old < MOST_LINES) × (self.new ≡ self.old) }
-        ensures all { result ≡ true → (ends : List OneEnd) → HasNoted ends self.old →
-            HasNoted (ends ++ end ∷ []) self.new }
+            (MOST_LINES ≤ lines_of fate self.old) × IsLeftOut fate self.old self.new }
+        ensures same { result ≡ false → (lines_of fate self.old < MOST_LINES) × (self.new ≡ self.old) }
+        ensures all { result ≡ true → (fates : List OneFate) → HasNoted fates self.old →
+            HasNoted (fates ++ fate ∷ []) self.new }
     {
-        if self.is_full(end) {
-            self.left_out.note(end);
+        if self.is_full(fate) {
+            self.left_out.note(fate);
             return true;
         }
         false
     }
 
     /// Whether the most refusals of a cause are waiting.
-    fn is_full(&self, end: End) -> bool
-        ensures full { result ≡ true → MOST_LINES ≤ lines_of end self.now }
-        ensures few { result ≡ false → lines_of end self.now < MOST_LINES }
+    fn is_full(&self, fate: Fate) -> bool
+        ensures full { result ≡ true → MOST_LINES ≤ lines_of fate self.now }
+        ensures few { result ≡ false → lines_of fate self.now < MOST_LINES }
     {
-        self.lines.count(end) >= MOST_LINES
+        self.lines.count(fate) >= MOST_LINES
     }
 
     /// Takes all that waits, and the counts of what was left out. Nothing waits then.
@@ -141,9 +141,9 @@ impl Backlog {
     pub fn join(&mut self, taken: Taken)
         ensures joined { IsJoined (record { waiting = taken.waited.items; left_out = taken.left_out })
             self.old self.new }
-        ensures all { (ends others : List OneEnd) → HasNoted ends self.old →
+        ensures all { (fates others : List OneFate) → HasNoted fates self.old →
             HasNoted others (record { waiting = taken.waited.items; left_out = taken.left_out }) →
-            HasNoted (ends ++ others) self.new }
+            HasNoted (fates ++ others) self.new }
     {
         let Taken { waited, left_out } = taken;
         self.push_all(waited);
@@ -153,8 +153,8 @@ impl Backlog {
     /// Adds refusals, each as `push` does.
     fn push_all(&mut self, refusals: Vec<Refusal>)
         ensures noted { AreNoted refusals.items self.old self.new }
-        ensures all { (ends : List OneEnd) → HasNoted ends self.old →
-            HasNoted (ends ++ ends_of refusals.items) self.new }
+        ensures all { (fates : List OneFate) → HasNoted fates self.old →
+            HasNoted (fates ++ fates_of refusals.items) self.new }
     {
         for refusal in refusals {
             let _ = self.push(refusal);
@@ -165,22 +165,22 @@ impl Backlog {
     /// refused, it is left out, and counted.
     fn push(&mut self, refusal: Refusal) -> Noted
         ensures noted { IsNoted refusal self.old self.new result }
-        ensures all { (ends : List OneEnd) → HasNoted ends self.old →
-            HasNoted (ends ++ refusal.end ∷ []) self.new }
+        ensures all { (fates : List OneFate) → HasNoted fates self.old →
+            HasNoted (fates ++ refusal.fate ∷ []) self.new }
     {
-        let end = refusal.end;
-        let is_full = self.is_full(end);
+        let fate = refusal.fate;
+        let is_full = self.is_full(fate);
         match push_unless(is_full, &mut self.waiting, refusal) {
             Noted::Waits => {
-                self.lines.note(end);
+                self.lines.note(fate);
                 Noted::Waits
             }
             Noted::LeftOut => {
-                self.left_out.note(end);
+                self.left_out.note(fate);
                 Noted::LeftOut
             }
             Noted::NoMemory => {
-                self.left_out.note(end);
+                self.left_out.note(fate);
                 Noted::NoMemory
             }
         }

@@ -2,6 +2,7 @@ ghost use Rattle.std.specs.Prelude.{◌≡◌, ◌≢◌, ◌/◌, ◌↔◌, Is
 ghost use Rattle.rld_look.specs.History.{
   a_minute,
   came_in,
+  came_to,
   kept_minutes,
   minute_at,
   minute_of,
@@ -12,7 +13,7 @@ ghost use Rattle.rld_look.specs.History.{
 };
 
 use crate::look::Minute;
-use rld_counts::{Counts, End, Kind};
+use rld_counts::{Counts, Fate, Gate, Kind};
 use std::alloc::{AllocError, Global};
 use std::marker::Model;
 
@@ -71,7 +72,7 @@ impl History {
     }
 
     /// Ends the present minute, and begins the minute of the second `now` since 1970. `counts` are
-    /// the ends of all datagrams until then, and `held` the number of places held. It fails only if
+    /// the fates of all datagrams until then, and `held` the number of places held. It fails only if
     /// memory is refused; then the history is as before.
     pub fn begin_minute(&mut self, now: u64, counts: &Counts, held: u64) -> Result<(), AllocError>
         ensures ok { OnOk result (self.new
@@ -136,9 +137,23 @@ impl Came {
     fn of(counts: &Counts) -> Came
         ensures { result ≡ came_in counts.now }
     {
-        let mut came = Came::new();
-        for end in End::all() {
-            came = came.with(end.kind(), counts.count(end));
+        Came::new()
+            .after(counts, Gate::Auth)
+            .after(counts, Gate::Acct)
+            .after(counts, Gate::Ask)
+    }
+
+    /// These numbers with what came to a gate.
+    fn after(self, counts: &Counts, gate: Gate) -> Came
+        ensures { result ≡ came_to counts.now gate self }
+    {
+        let mut came = self;
+        for cause in gate.causes() {
+            let fate = Fate {
+                gate,
+                cause: *cause,
+            };
+            came = came.with(cause.kind(), counts.count(fate));
         }
         came
     }

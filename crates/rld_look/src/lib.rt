@@ -24,6 +24,7 @@ mod refusals;
 mod servers;
 mod socket_table;
 mod totals;
+mod watcher;
 
 pub use accounts::{MOST_FULLEST, fullest_looks, held_in};
 pub use backlog::{Backlog, MOST_LINES, Noted, Taken};
@@ -44,3 +45,4 @@ pub use servers::{
 };
 pub use socket_table::socket_in;
 pub use totals::Totals;
+pub use watcher::{WatchContext, Watcher};

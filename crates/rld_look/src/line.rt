@@ -1,11 +1,11 @@
 //! The lines of refusals.
 
 ghost use Rattle.std.specs.Prelude.{◌≡◌, ◌++◌, OnOk};
-ghost use Rattle.rld_look.specs.Line.{account_words, address_words, asker_words, cause_words, client_words, front_words, held_words, left_out_if_any, left_out_among, left_out_line, left_out_lines, line_of, more_words, nas_words, number_words, source_words};
+ghost use Rattle.rld_look.specs.Line.{account_words, address_words, asker_words, cause_words, client_words, front_words, held_words, left_out_at, left_out_if_any, left_out_line, left_out_lines, line_of, more_words, nas_words, number_words, source_words};
 
 use crate::priority::{Priority, Sink};
 use crate::refusal::Refusal;
-use rld_counts::{Counts, End};
+use rld_counts::{Cause, Counts, Fate, Gate};
 use rld_values::{push_decimal, push_dotted, push_escaped, push_hex, push_text};
 use rsl_event::NasName;
 use rsl_wire::Octets;
@@ -35,10 +35,10 @@ impl Refusal {
     ) -> Result<(), AllocError>
         ensures { OnOk result (out.new.items ≡ out.old.items ++ line_of sink self.now places) }
     {
-        push_front(out, sink, self.end)?;
+        push_front(out, sink, self.fate)?;
         push_source(alloc, out, self)?;
         push_asker(out, self)?;
-        push_cause(out, self.end)?;
+        push_cause(out, self.fate.cause)?;
         push_held(out, places)
     }
 }
@@ -49,33 +49,39 @@ impl Refusal {
 pub fn write_left_out(out: &mut Vec<u8>, sink: Sink, left_out: &Counts) -> Result<(), AllocError>
     ensures { OnOk result (out.new.items ≡ out.old.items ++ left_out_lines sink left_out.now) }
 {
-    push_among(out, sink, left_out, &End::all())
+    push_left_out_at(out, sink, left_out, Gate::Auth)?;
+    push_left_out_at(out, sink, left_out, Gate::Acct)?;
+    push_left_out_at(out, sink, left_out, Gate::Ask)?;
+    Ok(())
 }
 
-/// Writes the number left out of each of these causes, if any were.
-fn push_among(
+/// Writes the number left out at a gate for each cause, if any were.
+fn push_left_out_at(
     out: &mut Vec<u8>,
     sink: Sink,
     left_out: &Counts,
-    ends: &[End],
+    gate: Gate,
 ) -> Result<(), AllocError>
-    ensures { OnOk result
-        (out.new.items ≡ out.old.items ++ left_out_among sink left_out.now ends.now) }
+    ensures { OnOk result (out.new.items ≡ out.old.items ++ left_out_at sink left_out.now gate) }
 {
-    for end in ends {
-        push_if_any(out, sink, *end, left_out.count(*end))?;
+    for cause in gate.causes() {
+        let fate = Fate {
+            gate,
+            cause: *cause,
+        };
+        push_if_any(out, sink, fate, left_out.count(fate))?;
     }
     Ok(())
 }
 
-/// Writes the start of a line: its mark, and the port.
+/// Writes the start of a line: its mark, and the gate.
 #[tactic(auto, unfolding(crate::specs::Line::front_words))]
-fn push_front(out: &mut Vec<u8>, sink: Sink, end: End) -> Result<(), AllocError>
-    ensures { OnOk result (out.new.items ≡ out.old.items ++ front_words sink end) }
+fn push_front(out: &mut Vec<u8>, sink: Sink, fate: Fate) -> Result<(), AllocError>
+    ensures { OnOk result (out.new.items ≡ out.old.items ++ front_words sink fate) }
 {
-    push_text(out, Priority::of(end.kind()).mark(sink))?;
+    push_text(out, Priority::of(fate.cause.kind()).mark(sink))?;
     push_text(out, "refused port=")?;
-    push_text(out, end.port())
+    push_text(out, fate.gate.word())
 }
 
 /// Writes the source of a datagram.
@@ -156,11 +162,11 @@ fn push_account(out: &mut Vec<u8>, name: &Option<Octets>) -> Result<(), AllocErr
 
 /// Writes the cause.
 #[tactic(auto, unfolding(crate::specs::Line::cause_words))]
-fn push_cause(out: &mut Vec<u8>, end: End) -> Result<(), AllocError>
-    ensures { OnOk result (out.new.items ≡ out.old.items ++ cause_words end) }
+fn push_cause(out: &mut Vec<u8>, cause: Cause) -> Result<(), AllocError>
+    ensures { OnOk result (out.new.items ≡ out.old.items ++ cause_words cause) }
 {
     push_text(out, " cause=")?;
-    push_text(out, end.name())
+    push_text(out, cause.name())
 }
 
 /// Writes the held places of all, if they are known, and ends the line.
@@ -177,42 +183,42 @@ fn push_held(out: &mut Vec<u8>, places: Option<Places>) -> Result<(), AllocError
 }
 
 /// Writes the number left out of a cause, if any were.
-fn push_if_any(out: &mut Vec<u8>, sink: Sink, end: End, number: u64) -> Result<(), AllocError>
+fn push_if_any(out: &mut Vec<u8>, sink: Sink, fate: Fate, number: u64) -> Result<(), AllocError>
     ensures { OnOk result
-        (out.new.items ≡ out.old.items ++ left_out_if_any sink end number) }
+        (out.new.items ≡ out.old.items ++ left_out_if_any sink fate number) }
 {
     if number == 0 {
         Ok(())
     } else {
-        push_left_out(out, sink, end, number)
+        push_left_out(out, sink, fate, number)
     }
 }
 
 /// Writes the number left out of a cause.
 #[tactic(auto, unfolding(crate::specs::Line::left_out_line))]
-fn push_left_out(out: &mut Vec<u8>, sink: Sink, end: End, number: u64) -> Result<(), AllocError>
-    ensures { OnOk result (out.new.items ≡ out.old.items ++ left_out_line sink end number) }
+fn push_left_out(out: &mut Vec<u8>, sink: Sink, fate: Fate, number: u64) -> Result<(), AllocError>
+    ensures { OnOk result (out.new.items ≡ out.old.items ++ left_out_line sink fate number) }
 {
-    push_number(out, sink, end, number)?;
-    push_more(out, end)?;
-    push_cause(out, end)?;
+    push_number(out, sink, fate.cause, number)?;
+    push_more(out, fate.gate)?;
+    push_cause(out, fate.cause)?;
     push_text(out, "\n")
 }
 
-/// Writes the cause of the number, and the port.
-fn push_more(out: &mut Vec<u8>, end: End) -> Result<(), AllocError>
-    ensures { OnOk result (out.new.items ≡ out.old.items ++ more_words end) }
+/// Writes the words after the number, and the gate.
+fn push_more(out: &mut Vec<u8>, gate: Gate) -> Result<(), AllocError>
+    ensures { OnOk result (out.new.items ≡ out.old.items ++ more_words gate) }
 {
     push_text(out, " more refused port=")?;
-    push_text(out, end.port())?;
+    push_text(out, gate.word())?;
     Ok(())
 }
 
 /// Writes the start of a line with the number of a cause: its mark, and the number.
 #[tactic(auto, unfolding(crate::specs::Line::number_words))]
-fn push_number(out: &mut Vec<u8>, sink: Sink, end: End, number: u64) -> Result<(), AllocError>
-    ensures { OnOk result (out.new.items ≡ out.old.items ++ number_words sink end number) }
+fn push_number(out: &mut Vec<u8>, sink: Sink, cause: Cause, number: u64) -> Result<(), AllocError>
+    ensures { OnOk result (out.new.items ≡ out.old.items ++ number_words sink cause number) }
 {
-    push_text(out, Priority::of(end.kind()).mark(sink))?;
+    push_text(out, Priority::of(cause.kind()).mark(sink))?;
     push_decimal(out, number)
 }

@@ -3,7 +3,7 @@ ghost use Rattle.rsl_event.specs.Occurrences.{value_of};
 ghost use Rattle.rsl_event.specs.Station.{if_station};
 ghost use Rattle.rld_look.specs.Refusal.{address_in, is_refusal, refusal_of, refusal_with};
 
-use rld_counts::{End, Kind};
+use rld_counts::{Fate, Kind};
 use rsl_event::codes::{
     CALLING_STATION_ID, MAX_STATION_LEN, NAS_IDENTIFIER, NAS_IP_ADDRESS, NAS_IPV6_ADDRESS,
     USER_NAME,
@@ -27,7 +27,7 @@ pub struct Refused<'a> {
     /// Its octets, or none if they are not available.
     pub octets: &'a [u8],
     /// How it ended.
-    pub end: End,
+    pub fate: Fate,
 }
 
 /// What an operator learns of a refused datagram.
@@ -53,7 +53,7 @@ pub struct Refusal {
     /// account counts by stations.
     pub station: Option<Octets>,
     /// How it ended.
-    pub end: End,
+    pub fate: Fate,
 }
 
 impl Refusal {
@@ -82,17 +82,17 @@ impl Refusal {
             nas: self.nas.try_copy(alloc)?,
             name: Octets::try_copy_option(alloc, &self.name)?,
             station: Octets::try_copy_option(alloc, &self.station)?,
-            end: self.end,
+            fate: self.fate,
         })
     }
 }
 
 /// Whether a datagram that ended so was refused: on the authentication port it got no accept, or on
 /// the accounting port no answer, or one that says nothing, since no account has its User-Name.
-pub fn is_refusal(end: End) -> bool
-    ensures { result ≡ is_refusal end }
+pub fn is_refusal(fate: Fate) -> bool
+    ensures { result ≡ is_refusal fate }
 {
-    match end.kind() {
+    match fate.cause.kind() {
         Kind::Accepted | Kind::Accounted => false,
         Kind::LimitRejected | Kind::Rejected | Kind::NoAccount | Kind::Dropped | Kind::Failed =>
             true,
@@ -111,7 +111,7 @@ fn bare(refused: &Refused<'_>) -> Refusal
         nas: NasName::Unnamed,
         name: None,
         station: None,
-        end: refused.end,
+        fate: refused.fate,
     }
 }
 
@@ -127,7 +127,7 @@ fn named(alloc: Global, refused: &Refused<'_>, attributes: &Attrs<'_>) -> Result
         nas: NasName::of(alloc, attributes.first(NAS_IDENTIFIER), address(attributes))?,
         name: copied(alloc, attributes.first(USER_NAME))?,
         station: station(alloc, attributes.first(CALLING_STATION_ID))?,
-        end: refused.end,
+        fate: refused.fate,
     })
 }
 

@@ -4,7 +4,7 @@ ghost use Rattle.rld_look.specs.Backlog.{IsOfBacklogs};
 use crate::backlog::{Backlog, Taken};
 use crate::lately::Lately;
 use crate::refusal::{Refusal, Refused, is_refusal};
-use rld_counts::End;
+use rld_counts::Fate;
 use rsl_wire::NoMemory;
 use std::alloc::{AllocError, Global};
 use std::sync::{Mutex, Wait};
@@ -33,9 +33,9 @@ impl Refusals {
 
     /// Leaves out a datagram that ended so at this receiver if the most refusals of its cause are
     /// waiting there, and gives whether it has. A flood of refusals costs a receiver no more.
-    pub fn leave_out<R: Wait>(&self, rt: &R, receiver: usize, end: End) -> bool {
+    pub fn leave_out<R: Wait>(&self, rt: &R, receiver: usize, fate: Fate) -> bool {
         match self.backlogs.as_slice().get(receiver) {
-            Some(backlog) => backlog.lock(rt).leave_out(end),
+            Some(backlog) => backlog.lock(rt).leave_out(fate),
             None => false,
         }
     }
@@ -43,7 +43,7 @@ impl Refusals {
     /// Notes how a datagram ended at this receiver, if it was refused: it waits for its line, or is
     /// counted as left out.
     pub fn note<R: Wait>(&self, rt: &R, alloc: Global, receiver: usize, refused: &Refused<'_>) {
-        if !is_refusal(refused.end) {
+        if !is_refusal(refused.fate) {
             return;
         }
         if let Some(backlog) = self.backlogs.as_slice().get(receiver) {

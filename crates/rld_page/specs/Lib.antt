@@ -5,4 +5,3 @@ pub mod Json
 pub mod Page
 pub mod Summary
 pub mod Tables
-pub mod Words

@@ -1,14 +1,16 @@
 -- The tables of the page: the fullest accounts, how datagrams ended, the
 -- access servers, what was refused lately, and the sockets.
-use Rattle.std.specs.Prelude.{ℕ, ◌-◌, ◌==◌, nat_le, nat_lt, List, [], ◌∷◌, ◌++◌, codes, drop, length, take, Option, None, Some, if◌then◌else◌}
+use Rattle.std.specs.Prelude.{ℕ, ◌-◌, ◌==◌, nat_le, nat_lt, List, [], ◌∷◌, ◌++◌, codes, length, Option, None, Some, if◌then◌else◌}
 use Rattle.std.specs.Fmt.{decimal}
 use Rattle.std.specs.List.{flat_map}
 use Rattle.std.specs.Net.Text.{ip_text, ipv6_text}
 use Rattle.std.specs.Net.Addr.{segments_of}
 use Rattle.std.specs.declared.net.ip_addr.IpAddr.{IpAddr}
-use Rattle.rld_counts.specs.Counts.{count_in, total_of}
-use Rattle.rld_counts.specs.Ends.{all_ends, is_answer, kind_of}
-use Rattle.rld_counts.specs.declared.end.End.{End}
+use Rattle.rld_counts.specs.Counts.{count_in, total_at}
+use Rattle.rld_counts.specs.Fates.{at, causes_at, is_answer, kind_of, words_of}
+use Rattle.rld_counts.specs.declared.cause.Cause.{Cause}
+use Rattle.rld_counts.specs.declared.gate.Gate.{Gate}
+use Rattle.rld_counts.specs.declared.gate.Gate.TheVariants.{Auth, Acct, Ask}
 use Rattle.rld_look.specs.AccessServers.{nas_word}
 use Rattle.rld_look.specs.declared.look.AccountLook.{AccountLook}
 use Rattle.rld_look.specs.declared.look.Look.{Look}
@@ -22,7 +24,6 @@ use Rattle.rsl_event.specs.declared.nas.NasName.TheVariants.{Identifier, Address
 use Rattle.rsl_shard.specs.declared.row.Row.{Row}
 use Rattle.rld_page.specs.Figures.{grouped, moment_text, share_of, width_text}
 use Rattle.rld_page.specs.Html.{html_text, soft_dash}
-use Rattle.rld_page.specs.Words.{words_of}
 
 -- how each table ends that fills its section
 abbrev pub table_end : List ℕ
@@ -77,40 +78,41 @@ accounts_of number fullest =
 
 -- ---- how datagrams ended
 
-unfoldable pub count_row : End → (count : ℕ) → List ℕ
-count_row end count =
-    codes "<tr><td>" ++ (words_of end ++ (codes "</td><td class=\"n\">" ++ (grouped count ++ codes "</td></tr>\n")))
+unfoldable pub count_row : Cause → (count : ℕ) → List ℕ
+count_row cause count =
+    codes "<tr><td>" ++ (words_of cause ++ (codes "</td><td class=\"n\">" ++ (grouped count ++ codes "</td></tr>\n")))
 
--- none of an end in which no datagram ended
-abbrev pub row_if_any : End → (count : ℕ) → List ℕ
-row_if_any end count = if count == 0 then [] else count_row end count
+-- none of a cause for which no datagram ended
+abbrev pub row_if_any : Cause → (count : ℕ) → List ℕ
+row_if_any cause count = if count == 0 then [] else count_row cause count
 
-abbrev pub answer_row : (counts : List ℕ) → End → List ℕ
-answer_row counts end = if is_answer (kind_of end) then row_if_any end (count_in counts end) else []
+abbrev pub answer_row : (counts : List ℕ) → Gate → Cause → List ℕ
+answer_row counts gate cause =
+    if is_answer (kind_of cause) then row_if_any cause (count_in counts (at gate cause)) else []
 
-abbrev pub other_row : (counts : List ℕ) → End → List ℕ
-other_row counts end = if is_answer (kind_of end) then [] else row_if_any end (count_in counts end)
+abbrev pub other_row : (counts : List ℕ) → Gate → Cause → List ℕ
+other_row counts gate cause =
+    if is_answer (kind_of cause) then [] else row_if_any cause (count_in counts (at gate cause))
 
--- the ends of a port: the answers, then all others, and their sum
-unfoldable pub port_table : (port counts : List ℕ) → List End → List ℕ
-port_table port counts ends =
-    codes "<table><thead><tr><th scope=\"col\">" ++ (port
+-- the causes of a gate: the answers, then all others, and their sum
+unfoldable pub gate_table : (name counts : List ℕ) → Gate → List ℕ
+gate_table name counts gate =
+    codes "<table><thead><tr><th scope=\"col\">" ++ (name
     ++ (codes "</th><th scope=\"col\" class=\"n\">Datagrams</th></tr></thead><tbody>\n"
-    ++ (flat_map (answer_row counts) ends ++ (flat_map (other_row counts) ends
+    ++ (flat_map (answer_row counts gate) (causes_at gate) ++ (flat_map (other_row counts gate) (causes_at gate)
     ++ (codes "</tbody><tfoot><tr><td>All</td><td class=\"n\">"
-    ++ (grouped (total_of counts ends) ++ codes "</td></tr></tfoot></table>\n"))))))
+    ++ (grouped (total_at counts gate) ++ codes "</td></tr></tfoot></table>\n"))))))
 
 -- the table of asks, if any came
-abbrev pub asks_if_any : (counts : List ℕ) → List End → List ℕ
-asks_if_any counts ends = if total_of counts ends == 0 then [] else port_table (codes "Asks") counts ends
+abbrev pub asks_if_any : (counts : List ℕ) → List ℕ
+asks_if_any counts = if total_at counts Ask == 0 then [] else gate_table (codes "Asks") counts Ask
 
--- the first 22 ends are those of the authentication port, then 21 of the accounting port
 unfoldable pub causes_of : (counts : List ℕ) → List ℕ
 causes_of counts =
     codes "<section class=\"rest\"><div class=\"top\"><h2>Datagrams since the start</h2></div>\n<div class=\"wide\">"
-    ++ (port_table (codes "Authentication") counts (take 22 all_ends)
-    ++ (port_table (codes "Accounting") counts (take 21 (drop 22 all_ends))
-    ++ (asks_if_any counts (drop 43 all_ends) ++ codes "</div></section>\n")))
+    ++ (gate_table (codes "Authentication") counts Auth
+    ++ (gate_table (codes "Accounting") counts Acct
+    ++ (asks_if_any counts ++ codes "</div></section>\n")))
 
 -- ---- the access servers that hold a session or a reservation
 
@@ -192,7 +194,7 @@ refusal_front dates refusal =
 
 unfoldable pub refusal_end : Refusal → List ℕ
 refusal_end refusal =
-    codes "</td><td>" ++ (words_of refusal.end
+    codes "</td><td>" ++ (words_of refusal.fate.cause
     ++ (codes "</td><td>" ++ (client_text refusal.client refusal.source refusal.peer
     ++ (codes "</td><td class=\"name\">" ++ (nas_text refusal.nas ++ codes "</td></tr>\n")))))
 

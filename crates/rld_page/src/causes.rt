@@ -1,13 +1,12 @@
 //! How the datagrams of each port and the asks ended, by cause.
 
-ghost use Rattle.std.specs.Prelude.{◌≡◌, ◌++◌, OnOk, codes, drop, take};
+ghost use Rattle.std.specs.Prelude.{◌≡◌, ◌++◌, OnOk};
 ghost use Rattle.std.specs.List.{flat_map};
-ghost use Rattle.rld_counts.specs.Ends.{all_ends};
-ghost use Rattle.rld_page.specs.Tables.{answer_row, asks_if_any, causes_of, count_row, other_row, port_table, row_if_any};
+ghost use Rattle.rld_counts.specs.Fates.{causes_at};
+ghost use Rattle.rld_page.specs.Tables.{answer_row, asks_if_any, causes_of, count_row, gate_table, other_row, row_if_any};
 
-use crate::ends::words;
 use crate::html::Html;
-use rld_counts::{Counts, End};
+use rld_counts::{Cause, Counts, Fate, Gate};
 use std::alloc::AllocError;
 
 /// Writes how the datagrams ended since the start.
@@ -18,129 +17,115 @@ pub(crate) fn write_causes(html: &mut Html, counts: &Counts) -> Result<(), Alloc
     html.markup(
         "<section class=\"rest\"><div class=\"top\"><h2>Datagrams since the start</h2></div>\n<div class=\"wide\">",
     )?;
-    write_auth(html, counts)?;
-    write_acct(html, counts)?;
-    write_asks(html, counts)?;
+    write_gate(html, "Authentication", counts, Gate::Auth)?;
+    write_gate(html, "Accounting", counts, Gate::Acct)?;
+    write_asks_if_any(html, counts)?;
     html.markup("</div></section>\n")?;
     Ok(())
 }
 
-/// Writes the table of the authentication port.
-fn write_auth(html: &mut Html, counts: &Counts) -> Result<(), AllocError>
-    ensures { OnOk result (html.new
-        ≡ html.old ++ port_table (codes "Authentication") counts.now (take 22 all_ends)) }
-{
-    let ends = End::all();
-    write_port(html, "Authentication", counts, End::of_auth(&ends))
-}
-
-/// Writes the table of the accounting port.
-fn write_acct(html: &mut Html, counts: &Counts) -> Result<(), AllocError>
-    ensures { OnOk result (html.new
-        ≡ html.old ++ port_table (codes "Accounting") counts.now (take 21 (drop 22 all_ends))) }
-{
-    let ends = End::all();
-    write_port(html, "Accounting", counts, End::of_acct(&ends))
-}
-
 /// Writes the table of asks, if any came.
-fn write_asks(html: &mut Html, counts: &Counts) -> Result<(), AllocError>
-    ensures { OnOk result (html.new ≡ html.old ++ asks_if_any counts.now (drop 43 all_ends)) }
+fn write_asks_if_any(html: &mut Html, counts: &Counts) -> Result<(), AllocError>
+    ensures { OnOk result (html.new ≡ html.old ++ asks_if_any counts.now) }
 {
-    let ends = End::all();
-    write_asks_if_any(html, counts, End::of_ask(&ends))
-}
-
-/// Writes the table of asks that ended in one of these ways, if any did.
-fn write_asks_if_any(html: &mut Html, counts: &Counts, ends: &[End]) -> Result<(), AllocError>
-    ensures { OnOk result (html.new ≡ html.old ++ asks_if_any counts.now ends.now) }
-{
-    if counts.total(ends) == 0 {
+    if counts.total_at(Gate::Ask) == 0 {
         return Ok(());
     }
-    write_port(html, "Asks", counts, ends)
+    write_gate(html, "Asks", counts, Gate::Ask)
 }
 
-/// Writes the table of a port by all its ends: the answers that came, then all else that did.
-#[tactic(auto, unfolding(crate::specs::Tables::port_table))]
-fn write_port(
+/// Writes the table of a gate by its causes: the answers that came, then all else that did.
+#[tactic(auto, unfolding(crate::specs::Tables::gate_table))]
+fn write_gate(
     html: &mut Html,
-    port: &'static str,
+    name: &'static str,
     counts: &Counts,
-    ends: &[End],
+    gate: Gate,
 ) -> Result<(), AllocError>
-    ensures { OnOk result (html.new ≡ html.old ++ port_table port.now counts.now ends.now) }
+    ensures { OnOk result (html.new ≡ html.old ++ gate_table name.now counts.now gate) }
 {
     html.markup("<table><thead><tr><th scope=\"col\">")?;
-    html.markup(port)?;
+    html.markup(name)?;
     html.markup("</th><th scope=\"col\" class=\"n\">Datagrams</th></tr></thead><tbody>\n")?;
-    write_answers(html, counts, ends)?;
-    write_others(html, counts, ends)?;
+    write_answers(html, counts, gate)?;
+    write_others(html, counts, gate)?;
     html.markup("</tbody><tfoot><tr><td>All</td><td class=\"n\">")?;
-    html.grouped(counts.total(ends))?;
+    html.grouped(counts.total_at(gate))?;
     html.markup("</td></tr></tfoot></table>\n")?;
     Ok(())
 }
 
-/// Writes those of the ends that came and are answers.
-fn write_answers(html: &mut Html, counts: &Counts, ends: &[End]) -> Result<(), AllocError>
-    ensures { OnOk result (html.new ≡ html.old ++ flat_map (answer_row counts.now) ends.now) }
+/// Writes those of the causes that came and are answers.
+fn write_answers(html: &mut Html, counts: &Counts, gate: Gate) -> Result<(), AllocError>
+    ensures { OnOk result (html.new
+        ≡ html.old ++ flat_map (answer_row counts.now gate) (causes_at gate)) }
 {
-    for end in ends {
-        write_if_answer(html, counts, *end)?;
+    for cause in gate.causes() {
+        write_if_answer(html, counts, gate, *cause)?;
     }
     Ok(())
 }
 
-/// Writes those of the ends that came and are none.
-fn write_others(html: &mut Html, counts: &Counts, ends: &[End]) -> Result<(), AllocError>
-    ensures { OnOk result (html.new ≡ html.old ++ flat_map (other_row counts.now) ends.now) }
+/// Writes those of the causes that came and are none.
+fn write_others(html: &mut Html, counts: &Counts, gate: Gate) -> Result<(), AllocError>
+    ensures { OnOk result (html.new
+        ≡ html.old ++ flat_map (other_row counts.now gate) (causes_at gate)) }
 {
-    for end in ends {
-        write_unless_answer(html, counts, *end)?;
+    for cause in gate.causes() {
+        write_unless_answer(html, counts, gate, *cause)?;
     }
     Ok(())
 }
 
-/// Writes an end that came, if it is an answer.
-fn write_if_answer(html: &mut Html, counts: &Counts, end: End) -> Result<(), AllocError>
-    ensures { OnOk result (html.new ≡ html.old ++ answer_row counts.now end) }
+/// Writes a cause that came, if it is an answer.
+fn write_if_answer(
+    html: &mut Html,
+    counts: &Counts,
+    gate: Gate,
+    cause: Cause,
+) -> Result<(), AllocError>
+    ensures { OnOk result (html.new ≡ html.old ++ answer_row counts.now gate cause) }
 {
-    if end.kind().is_answer() {
-        write_if_any(html, end, counts.count(end))
+    if cause.kind().is_answer() {
+        write_if_any(html, cause, counts.count(Fate { gate, cause }))
     } else {
         Ok(())
     }
 }
 
-/// Writes an end that came, if it is no answer.
-fn write_unless_answer(html: &mut Html, counts: &Counts, end: End) -> Result<(), AllocError>
-    ensures { OnOk result (html.new ≡ html.old ++ other_row counts.now end) }
+/// Writes a cause that came, if it is no answer.
+fn write_unless_answer(
+    html: &mut Html,
+    counts: &Counts,
+    gate: Gate,
+    cause: Cause,
+) -> Result<(), AllocError>
+    ensures { OnOk result (html.new ≡ html.old ++ other_row counts.now gate cause) }
 {
-    if end.kind().is_answer() {
+    if cause.kind().is_answer() {
         Ok(())
     } else {
-        write_if_any(html, end, counts.count(end))
+        write_if_any(html, cause, counts.count(Fate { gate, cause }))
     }
 }
 
-/// Writes how many datagrams ended so, if any did.
-fn write_if_any(html: &mut Html, end: End, number: u64) -> Result<(), AllocError>
-    ensures { OnOk result (html.new ≡ html.old ++ row_if_any end number) }
+/// Writes how many datagrams ended for this cause, if any did.
+fn write_if_any(html: &mut Html, cause: Cause, number: u64) -> Result<(), AllocError>
+    ensures { OnOk result (html.new ≡ html.old ++ row_if_any cause number) }
 {
     if number == 0 {
         return Ok(());
     }
-    write_end(html, end, number)
+    write_cause(html, cause, number)
 }
 
-/// Writes how many datagrams ended so.
+/// Writes how many datagrams ended for this cause.
 #[tactic(auto, unfolding(crate::specs::Tables::count_row))]
-fn write_end(html: &mut Html, end: End, number: u64) -> Result<(), AllocError>
-    ensures { OnOk result (html.new ≡ html.old ++ count_row end number) }
+fn write_cause(html: &mut Html, cause: Cause, number: u64) -> Result<(), AllocError>
+    ensures { OnOk result (html.new ≡ html.old ++ count_row cause number) }
 {
     html.markup("<tr><td>")?;
-    html.markup(words(end))?;
+    html.markup(cause.words())?;
     html.markup("</td><td class=\"n\">")?;
     html.grouped(number)?;
     html.markup("</td></tr>\n")?;

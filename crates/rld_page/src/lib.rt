@@ -12,7 +12,6 @@ mod accounts;
 mod causes;
 mod chart;
 mod document;
-mod ends;
 mod figures;
 mod html;
 mod json;

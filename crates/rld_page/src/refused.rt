@@ -5,7 +5,6 @@ ghost use Rattle.rld_page.specs.Html.{soft_dash};
 ghost use Rattle.rld_page.specs.Tables.{address_text, client_text, ipv6_or_word, name_or_dash, nas_text, refusal_end, refusal_front, refusal_row, refusal_rows, refused_if_any, refused_of, refused_table, table_end};
 ghost use Rattle.rld_values.specs.Dates.{AreDates};
 
-use crate::ends::words;
 use crate::html::Html;
 use rld_look::{Look, Refusal};
 use rsl_event::NasName;
@@ -107,7 +106,7 @@ fn write_end(html: &mut Html, refusal: &Refusal) -> Result<(), AllocError>
     ensures { OnOk result (html.new ≡ html.old ++ refusal_end refusal.now) }
 {
     html.markup("</td><td>")?;
-    html.markup(words(refusal.end))?;
+    html.markup(refusal.fate.cause.words())?;
     html.markup("</td><td>")?;
     write_client(html, refusal)?;
     html.markup("</td><td class=\"name\">")?;

@@ -18,9 +18,9 @@ use rld_ask::{Answer, AskForm, Asked, Asks, FormFault, Outcome, Refused, reply_l
 use rld_control::Reply;
 use rld_current::AskPlace;
 use rld_edges::RunFault;
+use rld_look::{WatchContext, Watcher};
 use rld_start::Generations;
 use rld_state::Told;
-use rld_watch::{WatchContext, Watcher};
 use rsl_port::SystemClock;
 use rsl_reply::Dictionary;
 use std::net::{Net, SocketAddr};
@@ -159,7 +159,7 @@ where
             board: &self.board,
             refusals: &self.refusals,
         };
-        let Some(watcher) = Watcher::new(self.rt, self.alloc, context, seat.number) else {
+        let Some(watcher) = Watcher::new(self.rt, self.alloc, context, seat.number)? else {
             return Ok(None);
         };
         let clock = SystemClock::new(self.rt, self.plan.start);

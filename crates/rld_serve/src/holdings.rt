@@ -13,6 +13,7 @@ ghost use Rattle.rld_state.specs.Places.{places_in};
 ghost use Rattle.rld_warnings.specs.Warning.{books_octets};
 ghost use Rattle.rsl_accounts.specs.Configuration.{account_number};
 
+use rld_counts::GateCounts;
 use rld_log::Log;
 use rld_look::{
     AccessServersLook, AccountsLook, ArchiveLook, Build, Look, Minute, Places, Recording, Refusal,
@@ -22,7 +23,6 @@ use rld_spelling::Header;
 use rld_start::sessions_in;
 use rld_state::{ServerState, Standing, places_in};
 use rld_warnings::books_octets;
-use rld_watch::GateCounts;
 use rsl_accounts::Config;
 use rsl_shard::Row;
 use rsl_wire::NoMemory;

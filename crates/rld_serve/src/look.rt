@@ -5,12 +5,12 @@ ghost use Rattle.rld_serve.specs.Look.{recording_of};
 
 use crate::holdings::{Holdings, Rest};
 use crate::server::Server;
+use rld_counts::{GateCounts, counts_of};
 use rld_look::{
     AccessServersLook, AccountsLook, Health, Look, Minute, Recording, SocketLook, add_links,
     join_servers, socket_in,
 };
 use rld_state::LinksPage;
-use rld_watch::{GateCounts, counts_of};
 use rsl_account_file::read_file;
 use rsl_accounts::Config;
 use rsl_port::{Clock, SystemClock};

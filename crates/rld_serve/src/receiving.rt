@@ -6,9 +6,9 @@ ghost use Rattle.rld_current.specs.Turning.{IsFaultOfTurn};
 use crate::accounts::Accounts;
 use crate::server::Server;
 use rld_edges::{Bound, Readiness, RunFault, SocketPort};
+use rld_look::{WatchContext, Watcher};
 use rld_start::Generations;
 use rld_turn::Receiver;
-use rld_watch::{WatchContext, Watcher};
 use rsl_event::Port;
 use rsl_port::SystemClock;
 use std::net::Net;
@@ -51,7 +51,7 @@ where
             board: &self.board,
             refusals: &self.refusals,
         };
-        let Some(watcher) = Watcher::new(self.rt, self.alloc, context, number) else {
+        let Some(watcher) = Watcher::new(self.rt, self.alloc, context, number)? else {
             return Ok(());
         };
         let mut place = Place {

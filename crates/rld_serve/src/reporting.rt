@@ -99,7 +99,7 @@ where
         for refusal in taken.waited {
             has_room = has_room && self.report_refusal(writer, holdings.as_ref(), &refusal);
             if !has_room {
-                left_out.note(refusal.end);
+                left_out.note(refusal.fate);
             }
             self.refusals.keep(self.rt, refusal);
         }

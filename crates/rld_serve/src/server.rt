@@ -6,7 +6,7 @@ ghost use Rattle.rld_edges.specs.Jobs.{port_of};
 ghost use Rattle.rld_edges.specs.declared.fault.RunFault.TheVariants.{Unsynced};
 ghost use Rattle.rld_start.specs.NextHeaders.{generation_named};
 ghost use Rattle.rld_state.specs.Headers.{IsHeaderOf};
-ghost use Rattle.rld_watch.specs.Ending.{gate_of};
+ghost use Rattle.rld_counts.specs.Fates.{gate_of};
 
 use crate::accounts::Accounts;
 use crate::asking::Seat;
@@ -15,6 +15,7 @@ use crate::reporting::MOST_TOLD;
 use crate::rolling::Rolls;
 use circular_buffer::HeapCircularBuffer;
 use rld_ask::Asks;
+use rld_counts::{Board, Gate};
 use rld_current::{Current, Shared};
 use rld_edges::{
     Control, Job, Orders, Readiness, RunFault, Shutdown, Sockets, outcome_of, ports_of,
@@ -27,7 +28,6 @@ use rld_spelling::Header;
 use rld_start::Generations;
 use rld_state::{ServerState, Told, Trouble, news_of_clock, seconds_behind};
 use rld_store::Store;
-use rld_watch::{Board, Gate};
 use rsl_accounts::Config;
 use rsl_event::Port;
 use rsl_port::{Clock, SystemClock};

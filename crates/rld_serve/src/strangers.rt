@@ -3,7 +3,7 @@
 ghost use Rattle.rld_serve.specs.Strangers.{IsUnauthorized};
 
 use crate::server::Server;
-use rld_counts::{AskEnd, End};
+use rld_counts::{Cause, Fate, Gate};
 use rld_look::Refused;
 use rsl_event::Source;
 use std::net::SocketAddr;
@@ -38,6 +38,9 @@ fn unauthorized(peer: SocketAddr, moment: u64) -> Refused<'static>
         peer: peer.ip(),
         client: None,
         octets: &[],
-        end: End::Ask(AskEnd::Unauthorized),
+        fate: Fate {
+            gate: Gate::Ask,
+            cause: Cause::Unauthorized,
+        },
     }
 }

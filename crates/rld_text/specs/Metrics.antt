@@ -3,10 +3,11 @@ use Rattle.std.specs.Prelude.{ℕ, ◌+◌, ◌-◌, ◌^◌, List, [], ◌∷�
 use Rattle.std.specs.Fmt.{decimal}
 use Rattle.std.specs.List.{flat_map, range_with_len}
 use Rattle.rld_counts.specs.Counts.{count_in}
-use Rattle.rld_counts.specs.Ends.{all_ends, name_of, port_of}
+use Rattle.rld_counts.specs.Fates.{at, causes_at, name_of, word_of}
 use Rattle.rld_counts.specs.Histogram.{Times}
 use Rattle.rld_counts.specs.Tally.{kept}
-use Rattle.rld_counts.specs.declared.end.End.{End}
+use Rattle.rld_counts.specs.declared.gate.Gate.{Gate}
+use Rattle.rld_counts.specs.declared.gate.Gate.TheVariants.{Auth, Acct, Ask}
 use Rattle.rld_look.specs.AccessServers.{nas_word}
 use Rattle.rld_look.specs.Totals.{plus}
 use Rattle.rld_look.specs.declared.build.Build.{Build}
@@ -48,13 +49,15 @@ datagrams_line front port end number =
     front ++ (label (codes "port") port
     ++ (codes "," ++ (label (codes "end") end ++ (codes "} " ++ (decimal number ++ codes "\n")))))
 
--- the lines of these ends, and of all
-abbrev pub lines_of : (front counts : List ℕ) → List End → List ℕ
-lines_of front counts ends =
-    flat_map (λ end. datagrams_line front (port_of end) (name_of end) (count_in counts end)) ends
+-- the lines of a gate, and of all
+abbrev pub lines_of : (front counts : List ℕ) → Gate → List ℕ
+lines_of front counts gate =
+    flat_map (λ cause. datagrams_line front (word_of gate) (name_of cause) (count_in counts (at gate cause)))
+    (causes_at gate)
 
 unfoldable pub ends_lines : (front counts : List ℕ) → List ℕ
-ends_lines front counts = lines_of front counts all_ends
+ends_lines front counts =
+    lines_of front counts Auth ++ (lines_of front counts Acct ++ lines_of front counts Ask)
 
 abbrev pub client_lines : ClientLook → List ℕ
 client_lines client = ends_lines (client_front client.address) client.counts

@@ -1,10 +1,12 @@
 -- The part of a status that is for people alone: the start of the server, and what has happened
 -- recently, in lines of at most 80 columns, except for long names and for rates of 10 a second and more.
-use Rattle.std.specs.Prelude.{ℕ, ◌-◌, ◌/◌, ◌%◌, ◌==◌, nat_lt, Bool, ◌&&◌, List, [], ◌∷◌, ◌++◌, codes, drop, length, take, if◌then◌else◌}
+use Rattle.std.specs.Prelude.{ℕ, ◌-◌, ◌/◌, ◌%◌, ◌==◌, nat_lt, Bool, ◌&&◌, List, [], ◌∷◌, ◌++◌, codes, length, if◌then◌else◌}
 use Rattle.std.specs.Fmt.{decimal}
-use Rattle.rld_counts.specs.Counts.{count_in, total_of}
-use Rattle.rld_counts.specs.Ends.{all_ends, name_of}
-use Rattle.rld_counts.specs.declared.end.End.{End}
+use Rattle.rld_counts.specs.Counts.{count_in, total_at}
+use Rattle.rld_counts.specs.Fates.{at, causes_at, name_of}
+use Rattle.rld_counts.specs.declared.cause.Cause.{Cause}
+use Rattle.rld_counts.specs.declared.gate.Gate.{Gate}
+use Rattle.rld_counts.specs.declared.gate.Gate.TheVariants.{Auth, Acct, Ask}
 use Rattle.rld_look.specs.History.{latest_of, span_of}
 use Rattle.rld_look.specs.Totals.{plus}
 use Rattle.rld_look.specs.declared.look.AccountLook.{AccountLook}
@@ -38,11 +40,11 @@ minute_line minute span =
 -- ---- the ends that occurred
 
 -- the columns of a word and its count
-abbrev pub len_of : End → (count : ℕ) → ℕ
-len_of end count = plus (plus (length (name_of end)) (length (decimal count))) 3
+abbrev pub len_of : Cause → (count : ℕ) → ℕ
+len_of cause count = plus (plus (length (name_of cause)) (length (decimal count))) 3
 
-unfoldable pub count_words : End → (count : ℕ) → List ℕ
-count_words end count = codes "  " ++ (name_of end ++ (codes " " ++ decimal count))
+unfoldable pub count_words : Cause → (count : ℕ) → List ℕ
+count_words cause count = codes "  " ++ (name_of cause ++ (codes " " ++ decimal count))
 
 -- on this line if it ends at this column, else on a new one
 abbrev pub break_before : (last : ℕ) → List ℕ
@@ -51,26 +53,27 @@ break_before last = if nat_lt 80 last then codes "\n    " else []
 abbrev pub column_after : (column len : ℕ) → ℕ
 column_after column len = if nat_lt 80 (plus column len) then plus 4 len else plus column len
 
--- the text of an end, and the column after it: nothing for an end that did not occur
-abbrev pub count_at : (column : ℕ) → End → (count : ℕ) → List ℕ
-count_at column end count =
-    if count == 0 then [] else break_before (plus column (len_of end count)) ++ count_words end count
+-- the text of a cause, and the column after it: nothing for one that did not occur
+abbrev pub count_at : (column : ℕ) → Cause → (count : ℕ) → List ℕ
+count_at column cause count =
+    if count == 0 then [] else break_before (plus column (len_of cause count)) ++ count_words cause count
 
-abbrev pub column_at : (column : ℕ) → End → (count : ℕ) → ℕ
-column_at column end count = if count == 0 then column else column_after column (len_of end count)
+abbrev pub column_at : (column : ℕ) → Cause → (count : ℕ) → ℕ
+column_at column cause count = if count == 0 then column else column_after column (len_of cause count)
 
-abbrev pub counts_from : (column : ℕ) → (counts : List ℕ) → List End → List ℕ
-counts_from column counts [] = []
-counts_from column counts (end ∷ ends) =
-    count_at column end (count_in counts end)
-    ++ counts_from (column_at column end (count_in counts end)) counts ends
+abbrev pub counts_from : (column : ℕ) → (counts : List ℕ) → Gate → List Cause → List ℕ
+counts_from column counts gate [] = []
+counts_from column counts gate (cause ∷ causes) =
+    count_at column cause (count_in counts (at gate cause))
+    ++ counts_from (column_at column cause (count_in counts (at gate cause))) counts gate causes
 
-unfoldable pub port_line : (port counts : List ℕ) → List End → List ℕ
-port_line port counts ends = port ++ (counts_from (length port) counts ends ++ codes "\n")
+-- what came to a gate, after its word
+unfoldable pub gate_line : (front counts : List ℕ) → Gate → List ℕ
+gate_line front counts gate = front ++ (counts_from (length front) counts gate (causes_at gate) ++ codes "\n")
 
 -- the line of asks, if any came
-abbrev pub asks_if_any : (counts : List ℕ) → List End → List ℕ
-asks_if_any counts ends = if total_of counts ends == 0 then [] else port_line (codes "ask_http:") counts ends
+abbrev pub asks_if_any : (counts : List ℕ) → List ℕ
+asks_if_any counts = if total_at counts Ask == 0 then [] else gate_line (codes "ask_http:") counts Ask
 
 -- ---- the fullest accounts, and the sockets
 
@@ -105,8 +108,8 @@ archive_line logs octets =
 unfoldable pub recent_lines : Look → List ℕ
 recent_lines look =
     minute_line (latest_of look) (span_of look)
-    ++ (port_line (codes "auth:") look.counts (take 22 all_ends)
-    ++ (port_line (codes "acct:") look.counts (take 21 (drop 22 all_ends))
-    ++ (asks_if_any look.counts (drop 43 all_ends)
+    ++ (gate_line (codes "auth:") look.counts Auth
+    ++ (gate_line (codes "acct:") look.counts Acct
+    ++ (asks_if_any look.counts
     ++ (full_lines 5 look.fullest.items
     ++ (sockets_if_any look.sockets.items ++ archive_line look.archive.logs look.archive.octets)))))

@@ -4,8 +4,9 @@ use Rattle.std.specs.Prelude.{◌≡◌, ℕ, ◌==◌, List, [], ◌++◌, code
 use Rattle.std.specs.Fmt.{decimal}
 use Rattle.std.specs.List.{flat_map}
 use Rattle.rld_counts.specs.Counts.{count_in}
-use Rattle.rld_counts.specs.Ends.{all_ends, name_of, port_of}
-use Rattle.rld_counts.specs.declared.end.End.{End}
+use Rattle.rld_counts.specs.Fates.{at, causes_at, name_of, word_of}
+use Rattle.rld_counts.specs.declared.gate.Gate.{Gate}
+use Rattle.rld_counts.specs.declared.gate.Gate.TheVariants.{Auth, Acct, Ask}
 use Rattle.rld_look.specs.declared.build.Build.{Build}
 use Rattle.rld_look.specs.declared.look.ArchiveLook.{ArchiveLook}
 use Rattle.rld_look.specs.declared.look.Look.{Look}
@@ -100,8 +101,12 @@ numbers_members look =
 unfoldable pub end_member : (port end : List ℕ) → (number : ℕ) → List ℕ
 end_member port end number = codes ",\"" ++ (port ++ (codes "_" ++ (end ++ (codes "\":" ++ decimal number))))
 
-abbrev pub ends_members : (counts : List ℕ) → List End → List ℕ
-ends_members counts ends = flat_map (λ end. end_member (port_of end) (name_of end) (count_in counts end)) ends
+abbrev pub gate_members : (counts : List ℕ) → Gate → List ℕ
+gate_members counts gate =
+    flat_map (λ cause. end_member (word_of gate) (name_of cause) (count_in counts (at gate cause))) (causes_at gate)
+
+unfoldable pub ends_members : (counts : List ℕ) → List ℕ
+ends_members counts = gate_members counts Auth ++ (gate_members counts Acct ++ gate_members counts Ask)
 
 -- the octets that wait at the sockets, and the datagrams dropped there
 unfoldable pub socket_members : (waiting dropped : ℕ) → List ℕ
@@ -119,5 +124,5 @@ status_object look =
     who_members look.build look.start look.now look.recording
     ++ (numbers_members look
     ++ (state_members look.clock_behind look.archive
-    ++ (ends_members look.counts all_ends
+    ++ (ends_members look.counts
     ++ (socket_members (waiting_after 0 look.sockets.items) (dropped_after 0 look.sockets.items) ++ codes "}\nok\n"))))

@@ -3,7 +3,7 @@ ghost use Rattle.std.specs.List.{flat_map};
 ghost use Rattle.rld_text.specs.Metrics.{all_front, client_front, client_lines, clients_head, datagrams_head, datagrams_line, ends_lines, ends_text, lines_of};
 
 use crate::text::{Head, push_head, push_label};
-use rld_counts::{Counts, End};
+use rld_counts::{Counts, Fate, Gate};
 use rld_look::{ClientLook, Look};
 use rld_values::{push_decimal, push_dotted, push_text};
 use std::alloc::{AllocError, Global};
@@ -95,20 +95,27 @@ fn push_client_front(out: &mut Vec<u8>, address: [u8; 4]) -> Result<(), AllocErr
 fn push_ends(out: &mut Vec<u8>, front: &[u8], counts: &Counts) -> Result<(), AllocError>
     ensures { OnOk result (out.new.items ≡ out.old.items ++ ends_lines front.now counts.now) }
 {
-    push_lines(out, front, counts, &End::all())
+    push_lines(out, front, counts, Gate::Auth)?;
+    push_lines(out, front, counts, Gate::Acct)?;
+    push_lines(out, front, counts, Gate::Ask)?;
+    Ok(())
 }
 
-/// Writes the number of datagrams that ended in each of these ways.
+/// Writes the number of datagrams that came to a gate and ended for each of its causes.
 fn push_lines(
     out: &mut Vec<u8>,
     front: &[u8],
     counts: &Counts,
-    ends: &[End],
+    gate: Gate,
 ) -> Result<(), AllocError>
-    ensures { OnOk result (out.new.items ≡ out.old.items ++ lines_of front.now counts.now ends.now) }
+    ensures { OnOk result (out.new.items ≡ out.old.items ++ lines_of front.now counts.now gate) }
 {
-    for end in ends {
-        push_line(out, front, end.port(), end.name(), counts.count(*end))?;
+    for cause in gate.causes() {
+        let fate = Fate {
+            gate,
+            cause: *cause,
+        };
+        push_line(out, front, gate.word(), cause.name(), counts.count(fate))?;
     }
     Ok(())
 }

@@ -1,14 +1,14 @@
 //! The part of a status that is for people alone: the start of the server, and what has happened
 //! recently, in lines of at most 80 columns, except for long names and for rates of 10 a second and more.
 
-ghost use Rattle.std.specs.Prelude.{◌≡◌, ◌++◌, List, IfOk, OnOk, codes, drop, take, ℕ};
-ghost use Rattle.rld_counts.specs.Ends.{all_ends};
+ghost use Rattle.std.specs.Prelude.{◌≡◌, ◌++◌, List, IfOk, OnOk, ℕ};
+ghost use Rattle.rld_counts.specs.Fates.{causes_at};
 ghost use Rattle.rld_look.specs.History.{latest_of, span_of};
-ghost use Rattle.rld_text.specs.Recent.{archive_line, asks_if_any, break_before, column_after, column_at, count_at, count_words, counts_from, full_line, full_lines, is_shown, len_of, minute_line, port_line, rate, recent_lines, sockets_if_any, sockets_line, span_front, start_line};
+ghost use Rattle.rld_text.specs.Recent.{archive_line, asks_if_any, break_before, column_after, column_at, count_at, count_words, counts_from, full_line, full_lines, gate_line, is_shown, len_of, minute_line, rate, recent_lines, sockets_if_any, sockets_line, span_front, start_line};
 ghost use Rattle.rld_values.specs.Dates.{AreDates};
 
 use crate::sums::{dropped, waiting};
-use rld_counts::{Counts, End};
+use rld_counts::{Cause, Counts, Fate, Gate};
 use rld_look::{AccountLook, ArchiveLook, Look, Minute, SocketLook};
 use rld_values::{push_age, push_date, push_decimal, push_text, push_word};
 use std::alloc::{AllocError, Global};
@@ -40,9 +40,9 @@ pub(crate) fn push_recent(alloc: Global, out: &mut Vec<u8>, look: &Look) -> Resu
     ensures { OnOk result (out.new.items ≡ out.old.items ++ recent_lines look.entry.now) }
 {
     push_latest(out, look)?;
-    push_auth(alloc, out, &look.counts)?;
-    push_acct(alloc, out, &look.counts)?;
-    push_asks(alloc, out, &look.counts)?;
+    push_gate(alloc, out, "auth:", &look.counts, Gate::Auth)?;
+    push_gate(alloc, out, "acct:", &look.counts, Gate::Acct)?;
+    push_asks_if_any(alloc, out, &look.counts)?;
     push_full(out, look)?;
     push_waiting(out, look)?;
     push_archive(out, look.archive)?;
@@ -121,109 +121,83 @@ fn push_rate(out: &mut Vec<u8>, count: u64) -> Result<(), AllocError>
     push_decimal(out, count % 60 / 6)
 }
 
-/// Writes the line of the authentication port.
-fn push_auth(alloc: Global, out: &mut Vec<u8>, counts: &Counts) -> Result<(), AllocError>
-    ensures { OnOk result (out.new.items
-        ≡ out.old.items ++ port_line (codes "auth:") counts.now (take 22 all_ends)) }
-{
-    let ends = End::all();
-    push_port(alloc, out, "auth:", counts, End::of_auth(&ends))
-}
-
-/// Writes the line of the accounting port.
-fn push_acct(alloc: Global, out: &mut Vec<u8>, counts: &Counts) -> Result<(), AllocError>
-    ensures { OnOk result (out.new.items
-        ≡ out.old.items ++ port_line (codes "acct:") counts.now (take 21 (drop 22 all_ends))) }
-{
-    let ends = End::all();
-    push_port(alloc, out, "acct:", counts, End::of_acct(&ends))
-}
-
 /// Writes the line of asks, if any came.
-fn push_asks(alloc: Global, out: &mut Vec<u8>, counts: &Counts) -> Result<(), AllocError>
-    ensures { OnOk result (out.new.items
-        ≡ out.old.items ++ asks_if_any counts.now (drop 43 all_ends)) }
+fn push_asks_if_any(alloc: Global, out: &mut Vec<u8>, counts: &Counts) -> Result<(), AllocError>
+    ensures { OnOk result (out.new.items ≡ out.old.items ++ asks_if_any counts.now) }
 {
-    let ends = End::all();
-    push_asks_if_any(alloc, out, counts, End::of_ask(&ends))
-}
-
-/// Writes the line of asks that ended in one of these ways, if any did.
-fn push_asks_if_any(
-    alloc: Global,
-    out: &mut Vec<u8>,
-    counts: &Counts,
-    ends: &[End],
-) -> Result<(), AllocError>
-    ensures { OnOk result (out.new.items ≡ out.old.items ++ asks_if_any counts.now ends.now) }
-{
-    if counts.total(ends) == 0 {
+    if counts.total_at(Gate::Ask) == 0 {
         return Ok(());
     }
-    push_port(alloc, out, "ask_http:", counts, ends)
+    push_gate(alloc, out, "ask_http:", counts, Gate::Ask)
 }
 
-/// Writes the number of datagrams of a port that ended in each of these ways, if any did.
-#[tactic(auto, unfolding(crate::specs::Recent::port_line))]
-fn push_port(
+/// Writes a gate's word, and the number that ended there for each cause, if any did.
+#[tactic(auto, unfolding(crate::specs::Recent::gate_line))]
+fn push_gate(
     alloc: Global,
     out: &mut Vec<u8>,
-    port: &str,
+    front: &str,
     counts: &Counts,
-    ends: &[End],
+    gate: Gate,
 ) -> Result<(), AllocError>
-    ensures { OnOk result (out.new.items ≡ out.old.items ++ port_line port.now counts.now ends.now) }
+    ensures { OnOk result (out.new.items ≡ out.old.items ++ gate_line front.now counts.now gate) }
 {
-    push_text(out, port)?;
-    push_counts(alloc, out, port.len(), counts, ends)?;
+    push_text(out, front)?;
+    push_counts(alloc, out, front.len(), counts, gate)?;
     push_text(out, "\n")
 }
 
-/// Writes the number that ended in each of these ways, if any did, from a column on.
+/// Writes the number that ended at a gate for each cause, if any did, from a column on.
 fn push_counts(
     alloc: Global,
     out: &mut Vec<u8>,
     first: usize,
     counts: &Counts,
-    ends: &[End],
+    gate: Gate,
 ) -> Result<(), AllocError>
-    ensures { OnOk result (out.new.items ≡ out.old.items ++ counts_from first counts.now ends.now) }
+    ensures { OnOk result (out.new.items
+        ≡ out.old.items ++ counts_from first counts.now gate (causes_at gate)) }
 {
     let mut column = first;
-    for end in ends {
-        column = push_count(alloc, out, column, *end, counts.count(*end))?;
+    for cause in gate.causes() {
+        let fate = Fate {
+            gate,
+            cause: *cause,
+        };
+        column = push_count(alloc, out, column, *cause, counts.count(fate))?;
     }
     Ok(())
 }
 
-/// Writes the number that ended in this way, if any did, and gives the next column.
+/// Writes the number that ended for this cause, if any did, and gives the next column.
 fn push_count(
     alloc: Global,
     out: &mut Vec<u8>,
     column: usize,
-    end: End,
+    cause: Cause,
     count: u64,
 ) -> Result<usize, AllocError>
-    ensures written { OnOk result (out.new.items ≡ out.old.items ++ count_at column end count) }
-    ensures column { IfOk result (λ after. after ≡ column_at column end count) }
+    ensures written { OnOk result (out.new.items ≡ out.old.items ++ count_at column cause count) }
+    ensures column { IfOk result (λ after. after ≡ column_at column cause count) }
 {
     if count == 0 {
         return Ok(column);
     }
-    let len = len_of(alloc, end, count)?;
+    let len = len_of(alloc, cause, count)?;
     push_break(out, column.saturating_add(len))?;
-    push_count_words(out, end, count)?;
+    push_count_words(out, cause, count)?;
     Ok(column_after(column, len))
 }
 
 /// The columns of a word and its count.
-fn len_of(alloc: Global, end: End, count: u64) -> Result<usize, AllocError>
-    ensures { IfOk result (λ len. len ≡ len_of end count) }
+fn len_of(alloc: Global, cause: Cause, count: u64) -> Result<usize, AllocError>
+    ensures { IfOk result (λ len. len ≡ len_of cause count) }
 {
     let mut number = Vec::new(alloc);
     push_decimal(&mut number, count)?;
     Ok(
-        end.name()
+        cause
+            .name()
             .len()
             .saturating_add(number.len())
             .saturating_add(3),
@@ -254,11 +228,11 @@ fn column_after(column: usize, len: usize) -> usize
 
 /// Writes a word and its count.
 #[tactic(auto, unfolding(crate::specs::Recent::count_words))]
-fn push_count_words(out: &mut Vec<u8>, end: End, count: u64) -> Result<(), AllocError>
-    ensures { OnOk result (out.new.items ≡ out.old.items ++ count_words end count) }
+fn push_count_words(out: &mut Vec<u8>, cause: Cause, count: u64) -> Result<(), AllocError>
+    ensures { OnOk result (out.new.items ≡ out.old.items ++ count_words cause count) }
 {
     push_text(out, "  ")?;
-    push_text(out, end.name())?;
+    push_text(out, cause.name())?;
     push_text(out, " ")?;
     push_decimal(out, count)
 }

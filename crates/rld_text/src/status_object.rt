@@ -1,13 +1,13 @@
 //! The status of a server as a JSON object.
 
 ghost use Rattle.std.specs.Prelude.{◌≡◌, ◌++◌, IfOk, OnOk};
-ghost use Rattle.rld_text.specs.Status.{end_member, ends_members, numbers_members, recording_word, socket_members, state_members, status_object, totals_members, who_members};
+ghost use Rattle.rld_text.specs.Status.{end_member, ends_members, gate_members, numbers_members, recording_word, socket_members, state_members, status_object, totals_members, who_members};
 
 use crate::build::push_proof_word;
 use crate::json::{push_member_front, push_number_member, push_text_string};
 use crate::sums::{dropped, waiting};
 use rld_control::Reply;
-use rld_counts::{Counts, End};
+use rld_counts::{Counts, Fate, Gate};
 use rld_look::{ArchiveLook, Build, Look, Recording, Totals};
 use rld_values::{push_decimal, push_text};
 use std::alloc::{AllocError, Global};
@@ -22,7 +22,7 @@ pub fn status_json(alloc: Global, look: &Look) -> Result<Vec<u8>, AllocError>
     push_who(&mut text, &look.build, look.start, look.now, look.recording)?;
     push_numbers(&mut text, look)?;
     push_state(&mut text, look.clock_behind, &look.archive)?;
-    push_ends(&mut text, &look.counts, &End::all())?;
+    push_ends(&mut text, &look.counts)?;
     push_sockets(&mut text, waiting(sockets), dropped(sockets))?;
     push_text(&mut text, "}\n")?;
     Reply::Done(b"").write(&mut text)?;
@@ -102,12 +102,27 @@ fn push_state(out: &mut Vec<u8>, clock_behind: u64, archive: &ArchiveLook) -> Re
     Ok(())
 }
 
-/// Writes how many datagrams ended in each of these ways.
-fn push_ends(out: &mut Vec<u8>, counts: &Counts, ends: &[End]) -> Result<(), AllocError>
-    ensures { OnOk result (out.new.items ≡ out.old.items ++ ends_members counts.now ends.now) }
+/// Writes how the datagrams of each gate ended.
+#[tactic(auto, unfolding(crate::specs::Status::ends_members))]
+fn push_ends(out: &mut Vec<u8>, counts: &Counts) -> Result<(), AllocError>
+    ensures { OnOk result (out.new.items ≡ out.old.items ++ ends_members counts.now) }
 {
-    for end in ends {
-        push_end(out, end.port(), end.name(), counts.count(*end))?;
+    push_gate(out, counts, Gate::Auth)?;
+    push_gate(out, counts, Gate::Acct)?;
+    push_gate(out, counts, Gate::Ask)?;
+    Ok(())
+}
+
+/// Writes how many datagrams came to a gate and ended for each of its causes.
+fn push_gate(out: &mut Vec<u8>, counts: &Counts, gate: Gate) -> Result<(), AllocError>
+    ensures { OnOk result (out.new.items ≡ out.old.items ++ gate_members counts.now gate) }
+{
+    for cause in gate.causes() {
+        let fate = Fate {
+            gate,
+            cause: *cause,
+        };
+        push_end(out, gate.word(), cause.name(), counts.count(fate))?;
     }
     Ok(())
 }

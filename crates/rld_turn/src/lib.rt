@@ -44,4 +44,4 @@ pub use rld_store::{RecordFault, Recorded};
 pub use status_reply::status_answer;
 pub use status_request::STATUS_SERVER;
 pub use subject::Subject;
-pub use watch::{Ended, Unwatched, Watch};
+pub use watch::{Ended, Watch};

@@ -44,14 +44,9 @@ pub trait Watch {
     fn note(&mut self, ended: Ended<'_>)
         ensures turns { turns self.new ≡ turns self.old }
         ensures told { HasTold (told_as ended.entry ∷ []) (knows self.old) (knows self.new) };
-}
 
-/// A watcher that notes nothing.
-#[derive(Clone, Copy)]
-pub struct Unwatched;
-
-impl Watch for Unwatched {
-    fn begin(&mut self) {}
-
-    fn note(&mut self, _ended: Ended<'_>) {}
+    /// Notes that the turn is over: each of its datagrams has ended, and was noted.
+    fn finish(&mut self)
+        ensures turns { turns self.new ≡ turns self.old }
+        ensures told { (told : List OneTold) → knows self.old told → knows self.new told };
 }

@@ -3,7 +3,7 @@
 //! server is ready.
 #![tactic(auto)]
 
-use rld_counts::{AcctEnd, AuthEnd, Cell, ClientCounts, Counts, End, Ended, Histogram};
+use rld_counts::{Cause, Cell, ClientCounts, Counted, Counts, Fate, Gate, Histogram};
 use rld_look::{
     AccessServerLook, AccessServersLook, ArchiveLook, Build, ClientLook, Health, Look, Proof,
     Recording, SocketLook, Totals,
@@ -23,8 +23,8 @@ fn main(rt: HostRuntime) -> io::Result<()> {
     let mut acct = Cell::new(rt.alloc(), CLIENTS)?;
     note_acct(&mut acct);
     let mut all = Cell::new(rt.alloc(), CLIENTS)?;
-    join(&mut all, &auth);
-    join(&mut all, &acct);
+    all.add(&auth);
+    all.add(&acct);
     for client in 0..CLIENTS + 1 {
         print_client(&rt, &all, client)?;
     }
@@ -49,43 +49,50 @@ fn print_ready(rt: &HostRuntime) -> io::Result<()> {
     Ok(())
 }
 
-/// Adds what another receiver has counted: by client if it is for as many.
-fn join(all: &mut Cell, other: &Cell) {
-    if all.clients() == other.clients() {
-        all.add(other);
-    } else {
-        all.add_in_all(other);
-    }
-}
-
 /// What the receiver of the authentication port took.
 fn note_auth(cell: &mut Cell) {
-    note(cell, End::Auth(AuthEnd::Accept), Some(0), Some(0));
-    note(cell, End::Auth(AuthEnd::Accept), Some(1), Some(1));
-    note(cell, End::Auth(AuthEnd::LimitReject), Some(1), Some(2));
-    note(cell, End::Auth(AuthEnd::WrongPassword), Some(1), Some(3));
-    note(cell, End::Auth(AuthEnd::Accept), Some(0), Some(4));
-    note(cell, End::Auth(AuthEnd::UnknownClient), None, None);
-    note(cell, End::Auth(AuthEnd::UncheckedCredential), Some(1), None);
-    note(cell, End::Auth(AuthEnd::Short), None, None);
-    note(cell, End::Auth(AuthEnd::Accept), Some(0), Some(8_388_608));
-    note(cell, End::Auth(AuthEnd::Accept), Some(0), Some(8_388_609));
+    note(cell, auth(Cause::Accept), Some(0), Some(0));
+    note(cell, auth(Cause::Accept), Some(1), Some(1));
+    note(cell, auth(Cause::LimitReject), Some(1), Some(2));
+    note(cell, auth(Cause::WrongPassword), Some(1), Some(3));
+    note(cell, auth(Cause::Accept), Some(0), Some(4));
+    note(cell, auth(Cause::UnknownClient), None, None);
+    note(cell, auth(Cause::UncheckedCredential), Some(1), None);
+    note(cell, auth(Cause::Short), None, None);
+    note(cell, auth(Cause::Accept), Some(0), Some(8_388_608));
+    note(cell, auth(Cause::Accept), Some(0), Some(8_388_609));
 }
 
 /// What the receiver of the accounting port took. Client 7 is none of the cell's.
 fn note_acct(cell: &mut Cell) {
-    note(cell, End::Acct(AcctEnd::Start), Some(0), Some(1_000_000));
-    note(cell, End::Acct(AcctEnd::OtherStatus), Some(1), Some(123));
-    note(cell, End::Acct(AcctEnd::NoSession), Some(1), None);
-    note(cell, End::Acct(AcctEnd::Start), Some(7), Some(999_999));
+    note(cell, acct(Cause::Start), Some(0), Some(1_000_000));
+    note(cell, acct(Cause::OtherStatus), Some(1), Some(123));
+    note(cell, acct(Cause::NoSession), Some(1), None);
+    note(cell, acct(Cause::Start), Some(7), Some(999_999));
 }
 
-fn note(cell: &mut Cell, end: End, client: Option<u32>, micros: Option<u64>) {
-    cell.note(Ended {
-        end,
+fn note(cell: &mut Cell, fate: Fate, client: Option<u32>, micros: Option<u64>) {
+    cell.note(Counted {
+        fate,
         client,
         micros,
     });
+}
+
+/// How a datagram ended that came to the authentication port.
+fn auth(cause: Cause) -> Fate {
+    Fate {
+        gate: Gate::Auth,
+        cause,
+    }
+}
+
+/// How one ended that came to the accounting port.
+fn acct(cause: Cause) -> Fate {
+    Fate {
+        gate: Gate::Acct,
+        cause,
+    }
 }
 
 /// Prints what a client was answered.
@@ -96,9 +103,9 @@ fn print_client(rt: &HostRuntime, cell: &Cell, client: u32) -> io::Result<()> {
     println!(rt;
         "client {client}: received {}, accept {}, reject {}, start {}",
         counts.received(),
-        counts.count(End::Auth(AuthEnd::Accept)),
-        counts.count(End::Auth(AuthEnd::LimitReject)),
-        counts.count(End::Acct(AcctEnd::Start)),
+        counts.count(auth(Cause::Accept)),
+        counts.count(auth(Cause::LimitReject)),
+        counts.count(acct(Cause::Start)),
     )
 }
 
@@ -114,7 +121,7 @@ fn print_renewed(rt: &HostRuntime, clients: u32) -> io::Result<()> {
     print_cell(rt, &cell)?;
     let mut all = Cell::new(rt.alloc(), CLIENTS)?;
     note_acct(&mut all);
-    join(&mut all, &cell);
+    all.add(&cell);
     print!(rt; "added to one for {CLIENTS}: ")?;
     print_cell(rt, &all)
 }
@@ -124,7 +131,7 @@ fn print_cell(rt: &HostRuntime, cell: &Cell) -> io::Result<()> {
     print!(rt;
         "received {}, accept {}, samples {}, by client",
         cell.counts().received(),
-        cell.counts().count(End::Auth(AuthEnd::Accept)),
+        cell.counts().count(auth(Cause::Accept)),
         cell.times().samples()
     )?;
     for client in 0..4 {

@@ -1,6 +1,6 @@
 //! Looks at three servers.
 
-use rld_counts::{AcctEnd, AuthEnd, Counts, End, Histogram};
+use rld_counts::{Cause, Counts, Fate, Gate, Histogram};
 use rld_look::{
     AccessServerLook, AccessServersLook, AccountLook, AccountsLook, ArchiveLook, Build, ClientLook,
     Look, Minute, Proof, Recording, Refusal, SocketLook, Totals,
@@ -123,26 +123,42 @@ fn socket(port: u16, waiting: u64, dropped: u64) -> SocketLook {
     }
 }
 
-/// Some datagrams of several ends.
+/// How a datagram ended that came to the authentication port.
+fn auth(cause: Cause) -> Fate {
+    Fate {
+        gate: Gate::Auth,
+        cause,
+    }
+}
+
+/// How one ended that came to the accounting port.
+fn acct(cause: Cause) -> Fate {
+    Fate {
+        gate: Gate::Acct,
+        cause,
+    }
+}
+
+/// Some datagrams of several fates.
 fn counts() -> Counts {
     let mut counts = Counts::new();
     for _ in 0..1_234 {
-        counts.note(End::Auth(AuthEnd::Accept));
+        counts.note(auth(Cause::Accept));
     }
     for _ in 0..87 {
-        counts.note(End::Auth(AuthEnd::LimitReject));
+        counts.note(auth(Cause::LimitReject));
     }
     for _ in 0..13 {
-        counts.note(End::Auth(AuthEnd::WrongPassword));
+        counts.note(auth(Cause::WrongPassword));
     }
-    counts.note(End::Auth(AuthEnd::BadSignature));
+    counts.note(auth(Cause::BadSignature));
     for _ in 0..2_048 {
-        counts.note(End::Acct(AcctEnd::InterimUpdate));
+        counts.note(acct(Cause::InterimUpdate));
     }
     for _ in 0..1_100 {
-        counts.note(End::Acct(AcctEnd::Start));
+        counts.note(acct(Cause::Start));
     }
-    counts.note(End::Acct(AcctEnd::NoSession));
+    counts.note(acct(Cause::NoSession));
     counts
 }
 
@@ -229,7 +245,7 @@ fn add_refusals(alloc: Global, refusals: &mut Vec<Refusal>) -> Result<(), NoMemo
         nas: NasName::Unnamed,
         name: None,
         station: None,
-        end: End::Auth(AuthEnd::UnknownClient),
+        fate: auth(Cause::UnknownClient),
     })?;
     refusals.push(Refusal {
         moment: NOW - 31,
@@ -239,7 +255,7 @@ fn add_refusals(alloc: Global, refusals: &mut Vec<Refusal>) -> Result<(), NoMemo
         nas: NasName::Identifier(Octets::from_slice(alloc, b"bras\" onload=\"x")?),
         name: Some(Octets::from_slice(alloc, b"<b>nemo\n\\\xff")?),
         station: Some(Octets::from_slice(alloc, b"<i>&\"\x00")?),
-        end: End::Auth(AuthEnd::WrongPassword),
+        fate: auth(Cause::WrongPassword),
     })?;
     refusals.push(Refusal {
         moment: NOW - 2,
@@ -249,7 +265,7 @@ fn add_refusals(alloc: Global, refusals: &mut Vec<Refusal>) -> Result<(), NoMemo
         nas: NasName::Address(Octets::from_slice(alloc, &[192, 0, 2, 77])?),
         name: Some(Octets::from_slice(alloc, b"nemo")?),
         station: Some(Octets::from_slice(alloc, b"00-00-5E-00-53-2A")?),
-        end: End::Auth(AuthEnd::LimitReject),
+        fate: auth(Cause::LimitReject),
     })?;
     Ok(())
 }

@@ -2,11 +2,10 @@
 
 use crate::disk::store_of;
 use crate::turns::{Scene, port_of, scene_of, served};
-use rld_counts::{Cell, End};
+use rld_counts::{Board, Cell, Fate, Gate, cell_of};
 use rld_log::MemoryLog;
-use rld_look::Refusals;
+use rld_look::{Refusals, WatchContext, Watcher};
 use rld_store::Store;
-use rld_watch::{Board, Gate, WatchContext, Watcher, cell_of};
 use rsl_accounts::Config;
 use rsl_event::Port;
 use std::alloc::Global;
@@ -37,7 +36,7 @@ impl<R: Wait + Clock> Subject for Counted<'_, R> {
             board: &board,
             refusals: &refusals,
         };
-        let Some(mut watcher) = Watcher::new(self.rt, alloc, context, 0) else {
+        let Some(mut watcher) = Watcher::new(self.rt, alloc, context, 0)? else {
             return Err("no place")?;
         };
         let mut counts = String::new(alloc);
@@ -46,7 +45,7 @@ impl<R: Wait + Clock> Subject for Counted<'_, R> {
         let readings = board.read(self.rt, alloc, clients)?;
         let cell = cell_of(alloc, readings.as_slice(), gate, clients)?;
         let mut text = String::new(alloc);
-        push_cell(&mut text, &cell)?;
+        push_cell(&mut text, gate, &cell)?;
         Ok(text)
     }
 }
@@ -99,7 +98,7 @@ impl<R: Wait> Subject for Timed<'_, R> {
             board: &board,
             refusals: &refusals,
         };
-        let Some(mut watcher) = Watcher::new(&slow, alloc, context, 0) else {
+        let Some(mut watcher) = Watcher::new(&slow, alloc, context, 0)? else {
             return Err("no place")?;
         };
         let mut counts = String::new(alloc);
@@ -142,7 +141,7 @@ impl<R: Wait + Clock> Subject for Renewed<'_, R> {
         let readings = board.read(self.rt, alloc, looked)?;
         let cell = cell_of(alloc, readings.as_slice(), gate, looked)?;
         let mut text = String::new(alloc);
-        push_cell(&mut text, &cell)?;
+        push_cell(&mut text, gate, &cell)?;
         Ok(text)
     }
 }
@@ -157,7 +156,7 @@ fn served_by_two<R: Wait + Clock>(
     store: &mut Store<MemoryLog>,
 ) -> Result<(), Fail> {
     for receiver in 0..2 {
-        let Some(mut watcher) = Watcher::new(rt, alloc, context, receiver) else {
+        let Some(mut watcher) = Watcher::new(rt, alloc, context, receiver)? else {
             return Err("no place")?;
         };
         let mut counts = String::new(alloc);
@@ -166,10 +165,14 @@ fn served_by_two<R: Wait + Clock>(
     Ok(())
 }
 
-/// Tells each count that is not 0, how many there are of the client, and how many are timed.
-fn push_cell(text: &mut String, cell: &Cell) -> Result<(), Fail> {
-    for end in End::all() {
-        push_count(text, end.name(), cell.counts().count(end))?;
+/// Tells each count of a gate that is not 0, how many there are of the client, and how many are timed.
+fn push_cell(text: &mut String, gate: Gate, cell: &Cell) -> Result<(), Fail> {
+    for cause in gate.causes() {
+        let fate = Fate {
+            gate,
+            cause: *cause,
+        };
+        push_count(text, cause.name(), cell.counts().count(fate))?;
     }
     let of_client = match cell.client(0) {
         Some(counts) => counts.received(),
@@ -212,13 +215,13 @@ fn datagrams_are_counted_by_their_ends(rt: HostRuntime) -> Result<(), Fail> {
     check_rows(&rt, &rows, COUNTED)
 }
 
-/// The same of asks: each request ends as an ask.
+/// The same of asks: each request ends as an ask, and one that is not served has no time.
 const ASKED: &str = "
 requests by their ends | 1 | auth | 1 | ask short:1025 wrong:1026 half bare:1027 ask:1028 | | 5 1 | \
-    | unserved=4 accept=1 reject_limit=1 client=6 timed=4
+    | unserved=4 accept=1 reject_limit=1 client=6 timed=2
 answers that could not be sent | 1 | auth | 1 | ask wrong | 0 1 | 5 1 | | unsent=2 client=2 timed=0
 a batch that is not recorded | 1 | auth | 1 | ask wrong short | | 5 1 | append 0 \
-    | unrecorded=1 unserved=2 client=3 timed=1
+    | unrecorded=1 unserved=2 client=3 timed=0
 ";
 
 #[test]
@@ -230,13 +233,13 @@ fn asks_are_counted_by_their_ends(rt: HostRuntime) -> Result<(), Fail> {
     check_rows(&rt, &rows, ASKED)
 }
 
-/// A turn looks at the clock as it begins, and once for each answer that was sent: a time has its whole seconds and
-/// the rest, and none is lost of an answer that takes long.
+/// A turn looks at the clock as it begins, and once when it is over, for all answers that were sent: a time has its
+/// whole seconds and the rest, and none is lost of an answer that takes long.
 const TIMED: &str = "
 under a second | 300 | 1 | auth | 1 | ask | | 5 1 | | timed=1 micros=300000
 a second and a half | 1500 | 1 | auth | 1 | ask | | 5 1 | | timed=1 micros=1500000
 a minute and a quarter of a second | 60250 | 1 | auth | 1 | ask | | 5 1 | | timed=1 micros=60250000
-two in one turn | 1500 | 1 | auth | 1 | ask ask | | 5 1 | | timed=2 micros=4500000
+two in one turn | 1500 | 1 | auth | 1 | ask ask | | 5 1 | | timed=2 micros=3000000
 at the other port | 2001 | 1 | acct | 1 | start | | 5 1 | | timed=1 micros=2001000
 one that was not sent | 1500 | 1 | auth | 1 | ask | 0 | 5 1 | | timed=0 micros=0
 ";

@@ -1,4 +1,4 @@
-//! Tests of `rld_turn` and `rld_watch`: what turns make of what waits at a port of memory, what a
+//! Tests of `rld_turn`, `rld_counts` and `rld_look`: what turns make of what waits at a port of memory, what a
 //! watcher learns of it and counts, and what a loss of power leaves of their batches on a disk of
 //! memory; and why logins are rejected. They are rows of text (`test_rows`). Expected values come
 //! from the session rule, worked by hand, and the octets from Python's hashlib. Also of `rld_look`:

@@ -1,6 +1,6 @@
 //! What is shown of sockets and of minutes.
 
-use rld_counts::{AcctEnd, AuthEnd, Counts, End};
+use rld_counts::{Cause, Counts, Fate, Gate};
 use rld_look::{History, socket_in};
 use std::alloc::Global;
 use std::net::IpAddr;
@@ -84,13 +84,13 @@ impl Subject for Minutes {
         let mut history = History::new(alloc, number(start)?)?;
         let mut counts = Counts::new();
         for word in seconds.split_ascii_whitespace() {
-            for end in [
-                End::Auth(AuthEnd::Accept),
-                End::Auth(AuthEnd::LimitReject),
-                End::Auth(AuthEnd::WrongPassword),
-                End::Acct(AcctEnd::Start),
+            for (gate, cause) in [
+                (Gate::Auth, Cause::Accept),
+                (Gate::Auth, Cause::LimitReject),
+                (Gate::Auth, Cause::WrongPassword),
+                (Gate::Acct, Cause::Start),
             ] {
-                counts.note(end);
+                counts.note(Fate { gate, cause });
             }
             let now = number(word)?;
             if history.has_passed(now) {

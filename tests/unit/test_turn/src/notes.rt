@@ -35,6 +35,20 @@ impl Watch for Notes {
         let told = (port, ended.client, ended.end, cause_in(ended.detail));
         let _ = write!(self.text, " {told:?}");
     }
+
+    fn finish(&mut self) {}
+}
+
+/// A watcher that notes nothing.
+#[derive(Clone, Copy)]
+pub(crate) struct Unwatched;
+
+impl Watch for Unwatched {
+    fn begin(&mut self) {}
+
+    fn note(&mut self, _ended: Ended<'_>) {}
+
+    fn finish(&mut self) {}
 }
 
 /// Why a request is rejected, if it is.

@@ -2,8 +2,8 @@
 
 use crate::disk::store_of;
 use crate::turns::{port_of, scene_of, served};
-use rld_look::{Refusals, Sink};
-use rld_watch::{Board, Gate, WatchContext, Watcher};
+use rld_counts::{Board, Gate};
+use rld_look::{Refusals, Sink, WatchContext, Watcher};
 use std::alloc::Global;
 use std::sync::Wait;
 use std::test::Fail;
@@ -28,7 +28,7 @@ impl<R: Wait + Clock> Subject for Lines<'_, R> {
             board: &board,
             refusals: &refusals,
         };
-        let Some(mut watcher) = Watcher::new(self.rt, alloc, context, 0) else {
+        let Some(mut watcher) = Watcher::new(self.rt, alloc, context, 0)? else {
             return Err("no place")?;
         };
         let mut counts = String::new(alloc);

@@ -14,10 +14,10 @@ use crate::clock::clock_of;
 use crate::coming::{coming_of, networks_of, push_sent};
 use crate::disk::{batches_of, left_by, push_moves, store_of};
 use crate::memory_port::MemoryPeers;
-use crate::notes::Notes;
+use crate::notes::{Notes, Unwatched};
 use rld_log::MemoryLog;
 use rld_store::{Store, read_frames};
-use rld_turn::{End, Ended, Gathered, Present, Receiver, RecordFault, Recorded, Unwatched, Watch};
+use rld_turn::{End, Ended, Gathered, Present, Receiver, RecordFault, Recorded, Watch};
 use rsl_accounts::Config;
 use rsl_event::Port;
 use rsl_port::Clock;
@@ -136,6 +136,7 @@ pub(crate) fn served<W: Watch>(
         let Gathered { moves, port } = receiver.gather(&present, clock.now(), &mut datagrams);
         let recorded = record(alloc, store, moves);
         receiver.answer(&present, &recorded, &mut datagrams, &mut counting);
+        counting.finish();
         let end = match (port, &recorded) {
             (Err(_), _) => "Down",
             (Ok(()), Err(RecordFault::Ended)) => "Ended",
@@ -198,6 +199,10 @@ impl<W: Watch> Watch for Counting<'_, W> {
         self.counts[1] += 1;
         self.counts[place] += 1;
         self.watch.note(ended);
+    }
+
+    fn finish(&mut self) {
+        self.watch.finish();
     }
 }
 

@@ -9,4 +9,4 @@ two_added old one new x y z first second is =
 pub returns : goal.returns
 unfolding more_words
 returns c =
-    two_added _ _ _ _ _ _ c.in_ok-push_text.ensures c.in_ok-push_text-2.ensures c.port.ensures
+    two_added _ _ _ _ _ _ c.in_ok-push_text.ensures c.in_ok-push_text-2.ensures c.word.ensures

@@ -6,4 +6,4 @@ pub returns : goal.returns
 unfolding causes_of
 returns c =
     written_5 _ _ _ _ _ _ _ _ _ _ _
-    c.in_ok-markup.ensures c.in_ok-write_auth.ensures c.in_ok-write_acct.ensures c.in_ok-write_asks.ensures c.in_ok-markup-2.ensures
+    c.in_ok-markup.ensures c.in_ok-write_gate.ensures c.in_ok-write_gate-2.ensures c.in_ok-write_asks_if_any.ensures c.in_ok-markup-2.ensures

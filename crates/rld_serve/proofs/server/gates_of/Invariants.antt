@@ -1,6 +1,6 @@
 use Rattle.std.proofs.Common.{◌≡◌, ◌++◌, drop}
 use Rattle.std.specs.Prelude.{map}
-use Rattle.rld_watch.specs.Ending.{gate_of}
+use Rattle.rld_counts.specs.Fates.{gate_of}
 use Rattle.rld_serve.proofs.server.gates_of.Given as goal
 
 abbrev pub invariant-loop-port : goal.invariant-loop-port

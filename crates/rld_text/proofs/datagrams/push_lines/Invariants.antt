@@ -1,7 +1,12 @@
 use Rattle.std.proofs.Common.{◌≡◌, ◌++◌, take}
-use Rattle.rld_text.specs.Metrics.{lines_of}
+use Rattle.std.specs.List.{flat_map}
+use Rattle.rld_counts.specs.Counts.{count_in}
+use Rattle.rld_counts.specs.Fates.{at, causes_at, name_of, word_of}
+use Rattle.rld_text.specs.Metrics.{datagrams_line}
 use Rattle.rld_text.proofs.datagrams.push_lines.Given as goal
 
--- the lines of the ends that were looked at
-abbrev pub invariant-loop-end : goal.invariant-loop-end
-invariant-loop-end l = l.out.items ≡ l.fn.out.items ++ lines_of l.front l.counts (take l.end-index l.ends)
+-- the lines of the causes that were looked at
+abbrev pub invariant-loop-cause : goal.invariant-loop-cause
+invariant-loop-cause l =
+    l.out.items
+    ≡ l.fn.out.items ++ flat_map (λ cause. datagrams_line l.front (word_of l.gate) (name_of cause) (count_in l.counts (at l.gate cause))) (take l.cause-index (causes_at l.gate))

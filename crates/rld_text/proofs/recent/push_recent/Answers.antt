@@ -6,4 +6,4 @@ pub returns : goal.returns
 unfolding recent_lines
 returns c =
     written_7 _ _ _ _ _ _ _ _ _ _ _ _ _ _ _
-    c.in_ok-push_latest.ensures c.in_ok-push_auth.ensures c.in_ok-push_acct.ensures c.in_ok-push_asks.ensures c.in_ok-push_full.ensures c.in_ok-push_waiting.ensures c.in_ok-push_archive.ensures
+    c.in_ok-push_latest.ensures c.in_ok-push_gate.ensures c.in_ok-push_gate-2.ensures c.in_ok-push_asks_if_any.ensures c.in_ok-push_full.ensures c.in_ok-push_waiting.ensures c.in_ok-push_archive.ensures

@@ -21,7 +21,7 @@ answer-requires g c = record {
 
 pub returns-clause-begun : goal.returns-clause-begun
 returns-clause-begun g c =
-    subst (HasBegun (g.W.Watch.turns c.args.watch.now)) (sym c.answer.ensures.turns) c.begin.ensures.begun
+    subst (HasBegun (g.W.Watch.turns c.args.watch.now)) (sym (c.finish.ensures.turns ∙ c.answer.ensures.turns)) c.begin.ensures.begun
 
 pub returns-clause-turned : goal.returns-clause-turned
 returns-clause-turned g c =
@@ -66,7 +66,7 @@ returns-clause-turned g c =
         more_taken = λ told. c.answer.ensures.taken told ∙ gathered.told (mid told);
         more_sent = λ told. answered.more_sent told ∙ ap (λ (t : List PeerDatagram). t ++ answered.sent) (c.gather-moves.ensures.sent (mid told));
         more_shown = c.now-moment.ensures.shown;
-        more_told = λ heard knew. answered.more_told heard (c.begin.ensures.told heard knew);
+        more_told = λ heard knew. c.finish.ensures.told _ (answered.more_told heard (c.begin.ensures.told heard knew));
         whole = c.record-recorded.ensures.batch;
         turned =
             subst (λ (on : Port). Turned service on c.now-moment.result (is_recorded (recorded_in outcome)) before answered.told gathered.taken moves answered.sent)

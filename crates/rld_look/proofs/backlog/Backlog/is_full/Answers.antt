@@ -4,8 +4,8 @@ use Rattle.rld_look.proofs.backlog.Backlog.is_full.Goals as goal
 
 pub returns-clause-full : goal.returns-clause-full
 returns-clause-full c = λ is.
-    lines_full c.args.end c.count.result c.self.inside.lines _ c.args.self.now c.self.invariant c.self.view_is c.count.ensures (leb-true _ _ is)
+    lines_full c.args.fate c.count.result c.self.inside.lines _ c.args.self.now c.self.invariant c.self.view_is c.count.ensures (leb-true _ _ is)
 
 pub returns-clause-few : goal.returns-clause-few
 returns-clause-few c = λ is.
-    lines_few c.args.end c.count.result c.self.inside.lines _ c.args.self.now c.self.invariant c.self.view_is c.count.ensures (leb-false _ _ is)
+    lines_few c.args.fate c.count.result c.self.inside.lines _ c.args.self.now c.self.invariant c.self.view_is c.count.ensures (leb-false _ _ is)

@@ -11,11 +11,11 @@ returns-clause-joined c =
       mid = c.push_all.new.self;
       noted = c.push_all.ensures.noted;
       waiting = ap (λ (b : BacklogSeen). b.waiting) c.self.view_is;
-      left_out = λ end. c.add.ensures.each end
-          ∙ ap (λ (b : BacklogSeen). kept (count_in b.left_out end + count_in c.args.taken.left_out end)) c.self.view_is;
+      left_out = λ fate. c.add.ensures.each fate
+          ∙ ap (λ (b : BacklogSeen). kept (count_in b.left_out fate + count_in c.args.taken.left_out fate)) c.self.view_is;
     }
 
 pub returns-clause-all : goal.returns-clause-all
-returns-clause-all c = λ ends others has had.
-    noted_joined ends others (record { waiting = c.args.taken.waited.items; left_out = c.args.taken.left_out }) _ _ _ had (c.push_all.ensures.all ends has) c.self.view_is
-    (λ end. c.add.ensures.each end)
+returns-clause-all c = λ fates others has had.
+    noted_joined fates others (record { waiting = c.args.taken.waited.items; left_out = c.args.taken.left_out }) _ _ _ had (c.push_all.ensures.all fates has) c.self.view_is
+    (λ fate. c.add.ensures.each fate)

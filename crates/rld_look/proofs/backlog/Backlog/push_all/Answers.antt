@@ -5,5 +5,5 @@ pub loop-refusal-preserved : goal.loop-refusal-preserved
 loop-refusal-preserved c =
     let noted = c.loop-refusal.invariant in (
       noted_after c.loop-refusal.yielded c.in-Some.refusal c.args.self.now c.loop-refusal.self c.push.new.self _ noted.0 c.push.ensures.noted,
-      λ ends has. all_after ends c.loop-refusal.yielded c.in-Some.refusal c.push.new.self (c.push.ensures.all _ (noted.1 ends has)),
+      λ fates has. all_after fates c.loop-refusal.yielded c.in-Some.refusal c.push.new.self (c.push.ensures.all _ (noted.1 fates has)),
     )

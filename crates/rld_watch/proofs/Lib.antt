@@ -1,5 +1,0 @@
-mod Counting
-mod Meaning
-mod Places
-mod Readings
-mod Truths
