@@ -1,6 +1,7 @@
 pub mod Callers
 pub mod Tallies
 pub mod Rows
+pub mod Telling
 pub mod Counting
 pub mod Timing
 pub mod Noting

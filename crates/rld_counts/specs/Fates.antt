@@ -1,4 +1,4 @@
--- Gates, causes, and fates: a cause at a gate. What is said of a cause stands in the table of the code alone.
+-- Gates, causes, and fates: a cause at a gate. The words of a cause stand in the table of the code alone.
 use Rattle.std.specs.Prelude.{ℕ, ◌+◌, ◌*◌, Bool, true, false, List, [], codes, slice_get}
 use Rattle.std.specs.Option.{option_map_or}
 use Rattle.rsl_event.specs.declared.meaning.Port.{Port}
@@ -95,10 +95,48 @@ number_of causes.StartUnknown = 35
 number_of causes.StopUnknown = 36
 number_of causes.InterimUpdateUnknown = 37
 
--- its kind, its word and its words are those of its row
+-- what became of the datagram
 unfoldable pub kind_of : Cause → Kind
-kind_of cause = option_map_or (λ row. row.1) (slice_get TABLE.now (number_of cause)) kinds.Failed
+kind_of causes.Short = kinds.Dropped
+kind_of causes.BadLength = kinds.Dropped
+kind_of causes.UnknownClient = kinds.Dropped
+kind_of causes.WrongCode = kinds.Dropped
+kind_of causes.BadSignature = kinds.Dropped
+kind_of causes.Unsigned = kinds.Dropped
+kind_of causes.UnsignedProxy = kinds.Dropped
+kind_of causes.BadAuthenticator = kinds.Dropped
+kind_of causes.Malformed = kinds.Dropped
+kind_of causes.ProxyTooLong = kinds.Dropped
+kind_of causes.NoStatus = kinds.Dropped
+kind_of causes.NoSession = kinds.Dropped
+kind_of causes.Unauthorized = kinds.Dropped
+kind_of causes.BadRequest = kinds.Dropped
+kind_of causes.Refused = kinds.Failed
+kind_of causes.Unrecorded = kinds.Failed
+kind_of causes.Unsent = kinds.Failed
+kind_of causes.Unserved = kinds.Failed
+kind_of causes.Accept = kinds.Accepted
+kind_of causes.LimitReject = kinds.LimitRejected
+kind_of causes.MalformedReject = kinds.Rejected
+kind_of causes.NotOneName = kinds.Rejected
+kind_of causes.NotOnePassword = kinds.Rejected
+kind_of causes.SeveralChallenges = kinds.Rejected
+kind_of causes.UnknownAccount = kinds.Rejected
+kind_of causes.WrongPassword = kinds.Rejected
+kind_of causes.DisabledAccount = kinds.Rejected
+kind_of causes.NoPassword = kinds.Rejected
+kind_of causes.UncheckedCredential = kinds.Rejected
+kind_of causes.Start = kinds.Accounted
+kind_of causes.Stop = kinds.Accounted
+kind_of causes.InterimUpdate = kinds.Accounted
+kind_of causes.AccountingOn = kinds.Accounted
+kind_of causes.AccountingOff = kinds.Accounted
+kind_of causes.OtherStatus = kinds.Accounted
+kind_of causes.StartUnknown = kinds.NoAccount
+kind_of causes.StopUnknown = kinds.NoAccount
+kind_of causes.InterimUpdateUnknown = kinds.NoAccount
 
+-- its word and its words are those of its row
 unfoldable pub name_of : Cause → List ℕ
 name_of cause = option_map_or (λ row. row.2.now) (slice_get TABLE.now (number_of cause)) []
 

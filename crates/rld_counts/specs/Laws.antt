@@ -1,5 +1,5 @@
 -- What a count says of the datagrams counted there, by their meaning.
-use Rattle.std.specs.Prelude.{◌≡◌, ℕ, ⊤, Bool, false, List, [], ◌∷◌, Option, Some, None, Ok, Err}
+use Rattle.std.specs.Prelude.{◌≡◌, ◌==◌, ◌||◌, ℕ, ⊤, Bool, true, false, List, [], ◌∷◌, Option, Some, None, Ok, Err}
 use Rattle.rsl_event.specs.Detail.{detail_of}
 use Rattle.rsl_event.specs.Laws.{cause_in}
 use Rattle.rsl_event.specs.declared.detail.Detail.{Detail}
@@ -20,7 +20,7 @@ use Rattle.rsl_event.specs.declared.status.Status.TheVariants as statuses
 use Rattle.rsl_shard.specs.Restep.{BooksSeen}
 use Rattle.rsl_shard.specs.declared.moved.Move.{Move}
 use Rattle.rld_counts.specs.Ending.{fate_of, is_nobody, status_in}
-use Rattle.rld_counts.specs.Fates.{port_of}
+use Rattle.rld_counts.specs.Fates.{causes_at, number_of, port_of}
 use Rattle.rld_counts.specs.declared.cause.Cause.{Cause}
 use Rattle.rld_counts.specs.declared.cause.Cause.TheVariants as causes
 use Rattle.rld_counts.specs.declared.fate.Fate.{Fate}
@@ -165,3 +165,16 @@ FatesAreTrue =
     (told : List Told) (taken : List PeerDatagram) (batch : List Move) (sent : List PeerDatagram)
     → Turned service (port_of gate) moment recorded begun told taken batch sent
     → HaveFates service gate told taken
+
+-- ---- what is told at a gate
+
+-- whether a cause is among these
+abbrev pub is_among : Cause → List Cause → Bool
+is_among cause [] = false
+is_among cause (one ∷ more) = number_of one == number_of cause || is_among cause more
+
+-- each cause that says something of a datagram at a gate is told there
+abbrev pub CausesAreTold : Type 0
+CausesAreTold =
+    (service : ServiceSeen) (gate : Gate) (one : PeerDatagram) (cause : Cause)
+    → SaysAt service gate one cause → is_among cause (causes_at gate) ≡ true
