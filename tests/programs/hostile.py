@@ -64,7 +64,7 @@ IDLE = 4
 REST, LONG_REST = 0.01, 0.4
 # there is time for so many cycles beside the others: LONG_REST of twenty minutes
 LATER_CYCLES = 3000
-# octets of a book of one link, and of each link more (`books_octets` of rld_warnings; bench/book.py counts them)
+# octets of a book of one link, and of each link more (`books_octets` of rld_config; bench/book.py counts them)
 BOOK = 3_522
 LINK = 223
 # octets that may become resident for an answer, whose move the journal and the receiver keep

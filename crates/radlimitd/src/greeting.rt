@@ -1,11 +1,10 @@
 //! The first lines of a server that runs, on standard error: its greeting.
 
 use rld_commands::Fault;
-use rld_config::{Paths, ServerFile};
+use rld_config::{Paths, ServerFile, Warning};
 use rld_look::Build;
 use rld_start::Found;
 use rld_text::push_build_line;
-use rld_warnings::Warning;
 use rsl_accounts::{Config, UnsignedRule};
 use rsl_event::Source;
 use rsl_port::socket_addr;

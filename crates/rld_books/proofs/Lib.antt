@@ -5,3 +5,10 @@ pub mod Making
 pub mod Numbered
 pub mod Saving
 pub mod Stepping
+pub mod Admitting
+pub mod Carrying
+pub mod Fitting
+pub mod Numbering
+pub mod Places
+pub mod Placing
+pub mod Pushing

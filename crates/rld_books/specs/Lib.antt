@@ -4,3 +4,8 @@ pub mod Cut
 pub mod CutLaws
 pub mod Saved
 pub mod Server
+pub mod Admitted
+pub mod Begun
+pub mod Carried
+pub mod Laws
+pub mod Numbers

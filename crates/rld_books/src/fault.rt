@@ -1,6 +1,7 @@
 ghost use Rattle.std.specs.Prelude.{◌≡◌};
 ghost use Rattle.rld_books.specs.declared.fault.ServerFault.TheVariants.{NoMemory as no_memory};
 
+use rld_spelling::Fault;
 use rsl_book::RestoreFault;
 use rsl_wire::NoMemory;
 use std::alloc::AllocFailed;
@@ -43,5 +44,28 @@ impl From<RestoreFault> for ServerFault {
             RestoreFault::TooManyAsks | RestoreFault::TooManyStops | RestoreFault::TooManyPlaces =>
                 { ServerFault::Misfit(fault) }
         }
+    }
+}
+
+/// Why the octets of an era's file give no configuration.
+#[derive(Clone, Copy)]
+pub enum TableFault {
+    /// Memory was refused.
+    NoMemory,
+    /// They spell no table.
+    Malformed(Fault),
+    /// No account file has the table.
+    NoConfiguration,
+}
+
+impl<T: Drop> From<AllocFailed<T>> for TableFault {
+    fn from(_refused: AllocFailed<T>) -> TableFault {
+        TableFault::NoMemory
+    }
+}
+
+impl From<NoMemory> for TableFault {
+    fn from(_refused: NoMemory) -> TableFault {
+        TableFault::NoMemory
     }
 }

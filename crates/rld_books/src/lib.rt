@@ -1,4 +1,4 @@
-//! The books of a server, of all its shards, without a journal.
+//! The books of a server, of all its shards, without a journal; and those with which its next era begins.
 //!
 //! The promise: a batch of moves is decided as its journal says, and the books are then what the
 //! moves make of them. A batch allocates nothing, given room for its decisions.
@@ -9,13 +9,39 @@
 //! `specs/Server.antt` says what a move does to the books, and what the journal of moves is;
 //! `specs/Saved.antt` what is saved of the books; `specs/Cut.antt` what a cut does to them;
 //! `specs/Blank.antt` what blank books are.
+//!
+//! The numbers of an era hold while the accounts, their rules, the clients' addresses and the
+//! shards stay.
+//!
+//! The promise of an era: its table is that of the configuration that it begins with, and it goes
+//! on exactly with a configuration that has the same. Passwords, secrets and what an accept carries
+//! may differ. The table of a configuration is defined in `rld_spelling`, `specs/Tables.antt`. A
+//! table also gives a configuration that has it, by which its era's logs are read.
+//!
+//! The promise of the next era: an account that keeps its name begins with the book of that name,
+//! at the clients that keep their addresses, and every other account with a new book. So an account
+//! that stays with its rules has the same sessions with the same last touches, the same closed
+//! sessions and the same kept asks; no account holds more places than its rules now have; and
+//! nothing is left of an account or a client that is gone.
+//!
+//! `specs/Carried.antt` says what is carried over of a book, `specs/Admitted.antt` what each
+//! account begins with, and `specs/Laws.antt` what follows.
 #![tactic(auto)]
 
+mod admission;
 mod blank_books;
+mod carry;
+mod clients;
+mod configuration;
 mod fault;
 pub mod laws;
+mod place;
 mod server_books;
+mod table;
 
+pub use admission::admit;
 pub use blank_books::BlankBooks;
-pub use fault::ServerFault;
+pub use configuration::config_of;
+pub use fault::{ServerFault, TableFault};
 pub use server_books::{CutBooks, ServerBooks};
+pub use table::{era_file, is_era_file, table_of};

@@ -1,9 +1,8 @@
 use crate::fault::Fault;
 use crate::files::{AccountFile, accounts_for, server_file};
 use crate::token::token_in;
-use rld_config::{Paths, passed_over};
+use rld_config::{Paths, passed_over, warnings};
 use rld_networks::Network;
-use rld_warnings::warnings;
 use rsl_accounts::{Config, UnsignedRule};
 use rsl_reply::Dictionary;
 use std::alloc::Global;

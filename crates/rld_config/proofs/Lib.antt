@@ -4,3 +4,4 @@ pub mod Tables
 pub mod Taken
 pub mod Parts
 pub mod Shadowed
+pub mod Told

@@ -5,3 +5,4 @@ pub mod Place
 pub mod Paths
 pub mod Trust
 pub mod Passed
+pub mod Warning

@@ -6,6 +6,10 @@
 //! `specs/Value.antt`. `Paths::of` resolves the file's paths (`specs/Paths.antt`), `break_of` finds
 //! where a text stops being TOML (`specs/Place.antt`), and `passed_over` the first key of an account
 //! file's text that counts for nothing before version 3 (`specs/Passed.antt`).
+//!
+//! `warnings` is what an operator should know of an account file that is right: exactly the remarks
+//! that `warnings_of` of `specs/Warning.antt` says. `books_octets` is the memory that the accounts'
+//! books take, by `books_octets` there.
 #![tactic(auto)]
 
 mod archive;
@@ -25,6 +29,7 @@ mod server;
 mod sync;
 mod trust;
 mod value;
+mod warning;
 mod web;
 
 pub use archive::Archive;
@@ -42,4 +47,5 @@ pub use place::{Place, break_of};
 pub use server::ServerFile;
 pub use sync::SyncPolicy;
 pub use trust::{Exposure, Trust, others_read};
+pub use warning::{Warning, books_octets, warnings};
 pub use web::Web;

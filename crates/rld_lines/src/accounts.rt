@@ -5,7 +5,7 @@ ghost use Rattle.rld_spelling.specs.Eras.{era_octets};
 ghost use Rattle.rld_spelling.specs.Tables.{table_of};
 
 use crate::fault::LinesFault;
-use rld_admit::TableFault;
+use rld_books::TableFault;
 use rld_start::{Cause, Wrong};
 use rsl_accounts::Config;
 use std::alloc::Global;
@@ -16,7 +16,7 @@ pub fn config_of(alloc: Global, file: &[u8]) -> Result<Config, LinesFault>
     ensures { IfOk result (λ config.
         (boot : ℕ) × (file.now ≡ era_octets (table_of boot config))) }
 {
-    match rld_admit::config_of(alloc, file) {
+    match rld_books::config_of(alloc, file) {
         Ok(config) => Ok(config),
         Err(TableFault::NoMemory) => Err(LinesFault::NoMemory),
         Err(TableFault::Malformed(fault)) => Err(LinesFault::Table(Wrong {

@@ -11,8 +11,8 @@ use crate::fault::LinesFault;
 use crate::line::{push_end, push_front};
 use crate::reading::{Begun, frames_of, front_of};
 use rld_books::ServerBooks;
-use rld_fields as fields;
 use rld_folder::Generation;
+use rld_spelling as spelling;
 use rld_start::{Cause, Wrong};
 use rld_store::{Part, counts_in};
 use rsl_accounts::Config;
@@ -78,7 +78,7 @@ impl<'a> Replay<'a> {
             return Err(wrong(at, Cause::Foreign));
         }
         let Some(number) = self.number.checked_add(1) else {
-            return Err(wrong(at, Cause::Malformed(fields::Cause::OutOfRange)));
+            return Err(wrong(at, Cause::Malformed(spelling::Cause::OutOfRange)));
         };
         let made = moved.try_copy(alloc)?;
         push_front(out, self.file, self.config, number, moved)?;

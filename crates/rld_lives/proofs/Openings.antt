@@ -16,9 +16,9 @@ use Rattle.rsl_session.specs.BookStep.{book_after}
 use Rattle.rsl_session.specs.Places.{places_of}
 use Rattle.rsl_session.specs.declared.bundle.Bundle.{Bundle}
 use Rattle.rsl_shard.specs.Restep.{BooksSeen, book_at, book_from}
-use Rattle.rld_admit.specs.Admitted.{AreAdmitted, account_with, admitted_book, next_number}
-use Rattle.rld_admit.specs.Carried.{Next, carried_book}
-use Rattle.rld_admit.specs.Laws.{PlacesStayWithinTheLimit}
+use Rattle.rld_books.specs.Admitted.{AreAdmitted, account_with, admitted_book, next_number}
+use Rattle.rld_books.specs.Carried.{Next, carried_book}
+use Rattle.rld_books.specs.Laws.{PlacesStayWithinTheLimit}
 use Rattle.rld_books.specs.Cut.{cut_book, cut_ruled, cut_server, cut_shard}
 use Rattle.rld_books.specs.CutLaws.{CutBooksFit}
 use Rattle.rld_books.specs.Saved.{book_in}

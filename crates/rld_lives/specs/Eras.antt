@@ -14,7 +14,7 @@ use Rattle.rsl_shard.specs.Restep.{BooksSeen}
 use Rattle.rsl_shard.specs.declared.line.Line.{Line}
 use Rattle.rsl_shard.specs.declared.moved.Move.{Move}
 use Rattle.rsl_shard.specs.declared.moved.Move.TheVariants.{Own}
-use Rattle.rld_admit.specs.Admitted.{AreAdmitted}
+use Rattle.rld_books.specs.Admitted.{AreAdmitted}
 use Rattle.rld_books.specs.Cut.{cut_server}
 use Rattle.rld_books.specs.Saved.{book_in}
 use Rattle.rld_books.specs.Server.{journal_of, new_server, replay}

@@ -60,6 +60,6 @@ pub fn eras_open_within_limits()
 {
     lives_obey_the_rule();
     rsl_session::laws::books_stay_within_the_limit();
-    rld_admit::laws::places_stay_within_the_limit();
+    rld_books::laws::places_stay_within_the_limit();
     rld_books::laws::cut_books_fit();
 }

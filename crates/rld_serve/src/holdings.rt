@@ -10,9 +10,10 @@ ghost use Rattle.rld_look.specs.Totals.{totals_of};
 ghost use Rattle.rld_serve.specs.Look.{rest_of};
 ghost use Rattle.rld_start.specs.Counted.{sessions_in};
 ghost use Rattle.rld_state.specs.Places.{places_in};
-ghost use Rattle.rld_warnings.specs.Warning.{books_octets};
+ghost use Rattle.rld_config.specs.Warning.{books_octets};
 ghost use Rattle.rsl_accounts.specs.Configuration.{account_number};
 
+use rld_config::books_octets;
 use rld_counts::GateCounts;
 use rld_log::Log;
 use rld_look::{
@@ -22,7 +23,6 @@ use rld_look::{
 use rld_spelling::Header;
 use rld_start::sessions_in;
 use rld_state::{ServerState, Standing, places_in};
-use rld_warnings::books_octets;
 use rsl_accounts::Config;
 use rsl_shard::Row;
 use rsl_wire::NoMemory;

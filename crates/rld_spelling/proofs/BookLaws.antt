@@ -1,10 +1,10 @@
 -- Books are read as they are spelled.
 use Rattle.std.proofs.Common.{◌≡◌, inl, inr, ℕ, zero, suc, ◌^◌, ◌<◌, ◌≤◌, true, false, cond, eqb, ltb, List, [], ◌∷◌, ◌++◌, Option, Some, None, Ok, refl, ap, arith}
 use Rattle.std.proofs.lemmas.Bool.{lt-ltb, or_left, or_right}
-use Rattle.rld_fields.specs.declared.fault.Cause.TheVariants.{OutOfRange, UnknownTag}
-use Rattle.rld_fields.specs.Field.{Reading, IsRead, AreOctets, fault_at, made_of, both, optional, short, short_at, nothing}
-use Rattle.rld_fields.specs.Numbers.{number, number_at}
-use Rattle.rld_fields.proofs.Callers.{tag_case, case_spelled, short_read, nothing_read, number_read, flag_read, both_read, seen_as_read, optional_read, checked_read, list_read}
+use Rattle.rld_spelling.specs.declared.fault.Cause.TheVariants.{OutOfRange, UnknownTag}
+use Rattle.rld_spelling.specs.Field.{Reading, IsRead, AreOctets, fault_at, made_of, both, optional, short, short_at, nothing}
+use Rattle.rld_spelling.specs.Numbers.{number, number_at}
+use Rattle.rld_spelling.proofs.Callers.{tag_case, case_spelled, short_read, nothing_read, number_read, flag_read, both_read, seen_as_read, optional_read, checked_read, list_read}
 use Rattle.rsl_event.specs.declared.event.Decision.{Decision}
 use Rattle.rsl_event.specs.declared.event.Decision.TheVariants as decisions
 use Rattle.rsl_session.specs.declared.saved.SavedHolder.{SavedHolder}

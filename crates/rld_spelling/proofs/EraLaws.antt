@@ -1,10 +1,10 @@
 -- The table of an era is read as it is spelled.
 use Rattle.std.proofs.Common.{◌≡◌, ℕ, ◌≤◌, true, refl, arith}
 use Rattle.std.proofs.lemmas.Bool.{leb-true, le-leb}
-use Rattle.rld_fields.specs.declared.fault.Cause.TheVariants.{OutOfRange, KeepTooLong, BadName}
-use Rattle.rld_fields.specs.Field.{IsRead, fixed, short}
-use Rattle.rld_fields.specs.Numbers.{between}
-use Rattle.rld_fields.proofs.Callers.{short_read, number_read, between_read, fixed_read, both_read, seen_as_read, listed_read, checked_read}
+use Rattle.rld_spelling.specs.declared.fault.Cause.TheVariants.{OutOfRange, KeepTooLong, BadName}
+use Rattle.rld_spelling.specs.Field.{IsRead, fixed, short}
+use Rattle.rld_spelling.specs.Numbers.{between}
+use Rattle.rld_spelling.proofs.Callers.{short_read, number_read, between_read, fixed_read, both_read, seen_as_read, listed_read, checked_read}
 use Rattle.rsl_accounts.specs.declared.rules.Rules.{Rules}
 use Rattle.rsl_accounts.specs.Field.{is_name}
 use Rattle.rsl_accounts.specs.Limits.{IsTime, RulesFit}

@@ -1,9 +1,9 @@
 -- The header of a generation is read as it is spelled.
 use Rattle.std.proofs.Common.{◌≡◌, inl, inr, ℕ, cond, eqb, List, ◌++◌, Ok, refl, ap, subst, ◌∙◌, arith}
-use Rattle.rld_fields.specs.declared.fault.Cause.TheVariants.{OtherFormat, OtherRule}
-use Rattle.rld_fields.specs.Field.{Reading, IsRead, AreOctets, fault_at, then_read}
-use Rattle.rld_fields.specs.Numbers.{number_at, number_octets}
-use Rattle.rld_fields.proofs.Callers.{ok_is, then_ok, tag_case, number_read, exactly_read, fixed_read, both_read, seen_as_read}
+use Rattle.rld_spelling.specs.declared.fault.Cause.TheVariants.{OtherFormat, OtherRule}
+use Rattle.rld_spelling.specs.Field.{Reading, IsRead, AreOctets, fault_at, then_read}
+use Rattle.rld_spelling.specs.Numbers.{number_at, number_octets}
+use Rattle.rld_spelling.proofs.Callers.{ok_is, then_ok, tag_case, number_read, exactly_read, fixed_read, both_read, seen_as_read}
 use Rattle.rsl_rule.specs.declared.version.TheConstants.{SESSION_RULE_VERSION}
 use Rattle.rld_spelling.specs.declared.header.Format.{Format}
 use Rattle.rld_spelling.specs.declared.header.Format.TheVariants.{One, Two}

@@ -5,3 +5,9 @@ pub mod MoveLaws
 pub mod SeenLoops
 pub mod ServerLaws
 pub mod TableLaws
+pub mod Callers
+pub mod Loops
+pub mod Made
+pub mod Numbered
+pub mod Smallest
+pub mod Wholes

@@ -1,10 +1,10 @@
 -- Moves are read as they are spelled.
 use Rattle.std.proofs.Common.{◌≡◌, inl, inr, ℕ, ◌^◌, ◌-◌, zero, suc, cond, eqb, List, [], ◌∷◌, ◌++◌, Some, None, Ok, refl, sym, ap, ◌∙◌, arith}
 use Rattle.std.proofs.lemmas.Bool.{ne_eqb}
-use Rattle.rld_fields.specs.declared.fault.Cause.TheVariants.{NoAccount, OutOfRange, UnknownTag}
-use Rattle.rld_fields.specs.Field.{Reading, IsRead, AreOctets, fault_at, made_of, short}
-use Rattle.rld_fields.specs.Numbers.{number}
-use Rattle.rld_fields.proofs.Callers.{ok_is, tag_case, case_spelled, short_read, number_read, below_read, between_read, both_read, optional_read, list_read}
+use Rattle.rld_spelling.specs.declared.fault.Cause.TheVariants.{NoAccount, OutOfRange, UnknownTag}
+use Rattle.rld_spelling.specs.Field.{Reading, IsRead, AreOctets, fault_at, made_of, short}
+use Rattle.rld_spelling.specs.Numbers.{number}
+use Rattle.rld_spelling.proofs.Callers.{ok_is, tag_case, case_spelled, short_read, number_read, below_read, between_read, both_read, optional_read, list_read}
 use Rattle.rsl_event.specs.declared.event.Act.{Act}
 use Rattle.rsl_event.specs.declared.event.Act.TheVariants as acts
 use Rattle.rsl_event.specs.declared.nas.Nas.{Nas}

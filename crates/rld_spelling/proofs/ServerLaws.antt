@@ -1,8 +1,8 @@
 -- Access servers and requests are read as they are spelled.
 use Rattle.std.proofs.Common.{◌≡◌, inl, inr, ℕ, ◌^◌, ◌≤◌, cond, eqb, List, [], ◌∷◌, ◌++◌, Ok, refl, ap}
-use Rattle.rld_fields.specs.declared.fault.Cause.TheVariants.{NoClient, UnknownTag}
-use Rattle.rld_fields.specs.Field.{Reading, IsRead, AreOctets, fault_at, made_of, short, short_at, nothing}
-use Rattle.rld_fields.proofs.Callers.{tag_case, case_spelled, short_read, nothing_read, below_read, pair_read, octet_read, fixed_read, both_read, seen_as_read}
+use Rattle.rld_spelling.specs.declared.fault.Cause.TheVariants.{NoClient, UnknownTag}
+use Rattle.rld_spelling.specs.Field.{Reading, IsRead, AreOctets, fault_at, made_of, short, short_at, nothing}
+use Rattle.rld_spelling.proofs.Callers.{tag_case, case_spelled, short_read, nothing_read, below_read, pair_read, octet_read, fixed_read, both_read, seen_as_read}
 use Rattle.rsl_event.specs.declared.nas.NasName.{NasName}
 use Rattle.rsl_event.specs.declared.nas.NasName.TheVariants.{Identifier, Address, Unnamed}
 use Rattle.rld_spelling.specs.Servers.{NameFits, name_at, name_octets, name_field, nas_of, nas_parts, nas_as, nas_at, nas_octets, nas_field}

@@ -1,10 +1,10 @@
 -- Books as octets: all that the book of an account holds.
 use Rattle.std.specs.Prelude.{ℕ, List, [], ◌∷◌, ◌++◌, length, Bool, ◌||◌, Option, None, IfSome, is_some, Ok, nat_eq, nat_lt, if◌then◌else◌, map}
 use Rattle.std.specs.List.{flat_map}
-use Rattle.rld_fields.specs.declared.fault.Cause.TheVariants.{CutShort, OutOfRange, UnknownTag}
-use Rattle.rld_fields.specs.Field.{Field, Reading, fault_at, made_of, both, checked, seen_as, optional, option_spelled, short, short_at, flag, flag_spelled}
-use Rattle.rld_fields.specs.Lists.{list_of}
-use Rattle.rld_fields.specs.Numbers.{number, number_at, number_octets}
+use Rattle.rld_spelling.specs.declared.fault.Cause.TheVariants.{CutShort, OutOfRange, UnknownTag}
+use Rattle.rld_spelling.specs.Field.{Field, Reading, fault_at, made_of, both, checked, seen_as, optional, option_spelled, short, short_at, flag, flag_spelled}
+use Rattle.rld_spelling.specs.Lists.{list_of}
+use Rattle.rld_spelling.specs.Numbers.{number, number_at, number_octets}
 use Rattle.rsl_event.specs.declared.event.Decision.{Decision}
 use Rattle.rsl_event.specs.declared.event.Decision.TheVariants as decisions
 use Rattle.rsl_event.specs.declared.event.Key.{Key}

@@ -2,10 +2,10 @@
 -- are within the limits of an account file, as `rsl_accounts` has them.
 use Rattle.std.specs.Prelude.{ℕ, List, ◌++◌, length}
 use Rattle.std.specs.List.{flat_map}
-use Rattle.rld_fields.specs.declared.fault.Cause.TheVariants.{BadName, OutOfRange}
-use Rattle.rld_fields.specs.Field.{Field, Reading, both, seen_as, short, fixed, checked}
-use Rattle.rld_fields.specs.Lists.{listed}
-use Rattle.rld_fields.specs.Numbers.{number, number_octets, between}
+use Rattle.rld_spelling.specs.declared.fault.Cause.TheVariants.{BadName, OutOfRange}
+use Rattle.rld_spelling.specs.Field.{Field, Reading, both, seen_as, short, fixed, checked}
+use Rattle.rld_spelling.specs.Lists.{listed}
+use Rattle.rld_spelling.specs.Numbers.{number, number_octets, between}
 use Rattle.rsl_accounts.specs.Field.{is_name}
 use Rattle.rsl_accounts.specs.declared.rules.Rules.{Rules}
 use Rattle.rld_spelling.specs.RulesSpelled.{rules_field, rules_octets}

@@ -1,9 +1,9 @@
 -- The header of a generation as octets. The versions of the format and of the session rule come
 -- first: a header of other versions is refused by the first of them, and nothing after it is read.
 use Rattle.std.specs.Prelude.{ℕ, List, ◌++◌, Ok, nat_eq, if◌then◌else◌}
-use Rattle.rld_fields.specs.declared.fault.Cause.TheVariants.{OtherFormat, OtherRule}
-use Rattle.rld_fields.specs.Field.{Field, Reading, fault_at, then_read, both, seen_as, fixed}
-use Rattle.rld_fields.specs.Numbers.{number, number_at, number_octets, exactly}
+use Rattle.rld_spelling.specs.declared.fault.Cause.TheVariants.{OtherFormat, OtherRule}
+use Rattle.rld_spelling.specs.Field.{Field, Reading, fault_at, then_read, both, seen_as, fixed}
+use Rattle.rld_spelling.specs.Numbers.{number, number_at, number_octets, exactly}
 use Rattle.rld_spelling.specs.declared.header.Format.{Format}
 use Rattle.rld_spelling.specs.declared.header.Format.TheVariants.{One, Two}
 use Rattle.rld_spelling.specs.declared.header.Header.{Header}

@@ -7,3 +7,7 @@ pub mod Requests
 pub mod RulesSpelled
 pub mod Servers
 pub mod Tables
+pub mod Field
+pub mod Lists
+pub mod Numbers
+pub mod Read

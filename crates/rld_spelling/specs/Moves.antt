@@ -4,10 +4,10 @@
 -- The tags 1 to 6 are those of format 1. Those after them are of format 2: the same fields, and
 -- then what format 1 did not know. A move that has none of it keeps its first tag.
 use Rattle.std.specs.Prelude.{ℕ, ◌^◌, ◌-◌, List, [], ◌∷◌, ◌++◌, Option, Some, None, IfSome, nat_eq, if◌then◌else◌}
-use Rattle.rld_fields.specs.declared.fault.Cause.TheVariants.{CutShort, NoAccount, OutOfRange, UnknownTag}
-use Rattle.rld_fields.specs.Field.{Field, Reading, fault_at, made_of, both, optional, option_spelled, short}
-use Rattle.rld_fields.specs.Lists.{list_of}
-use Rattle.rld_fields.specs.Numbers.{number, number_octets, below, between}
+use Rattle.rld_spelling.specs.declared.fault.Cause.TheVariants.{CutShort, NoAccount, OutOfRange, UnknownTag}
+use Rattle.rld_spelling.specs.Field.{Field, Reading, fault_at, made_of, both, optional, option_spelled, short}
+use Rattle.rld_spelling.specs.Lists.{list_of}
+use Rattle.rld_spelling.specs.Numbers.{number, number_octets, below, between}
 use Rattle.rsl_event.specs.declared.event.Act.{Act}
 use Rattle.rsl_event.specs.declared.event.Act.TheVariants as acts
 use Rattle.rsl_event.specs.declared.event.Key.{Key}

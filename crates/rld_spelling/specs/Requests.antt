@@ -2,8 +2,8 @@
 -- and its Request Authenticator (RFC 2865 section 3).
 use Rattle.std.specs.Prelude.{ℕ, List, ◌∷◌, ◌++◌}
 use Rattle.std.specs.Int.{w16, to_be_bytes}
-use Rattle.rld_fields.specs.Field.{Field, Reading, both, seen_as, fixed, octet}
-use Rattle.rld_fields.specs.Numbers.{pair}
+use Rattle.rld_spelling.specs.Field.{Field, Reading, both, seen_as, fixed, octet}
+use Rattle.rld_spelling.specs.Numbers.{pair}
 use Rattle.rsl_event.specs.declared.event.Key.{Key}
 
 abbrev pub key_of : List ℕ × (ℕ × (ℕ × List ℕ)) → Key

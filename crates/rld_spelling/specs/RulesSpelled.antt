@@ -1,8 +1,8 @@
 -- The rules of an account as octets: each number within the limits of an account file.
 use Rattle.std.specs.Prelude.{ℕ, List, ◌++◌, Bool, nat_le}
-use Rattle.rld_fields.specs.declared.fault.Cause.TheVariants.{OutOfRange, KeepTooLong}
-use Rattle.rld_fields.specs.Field.{Field, Reading, both, seen_as, checked}
-use Rattle.rld_fields.specs.Numbers.{number_octets, between}
+use Rattle.rld_spelling.specs.declared.fault.Cause.TheVariants.{OutOfRange, KeepTooLong}
+use Rattle.rld_spelling.specs.Field.{Field, Reading, both, seen_as, checked}
+use Rattle.rld_spelling.specs.Numbers.{number_octets, between}
 use Rattle.rsl_accounts.specs.declared.rules.Rules.{Rules}
 use Rattle.rsl_accounts.specs.Limits.{RulesFit}
 

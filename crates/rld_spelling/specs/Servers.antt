@@ -1,8 +1,8 @@
 -- Access servers as octets: the client's number, and the name after a tag of its kind.
 use Rattle.std.specs.Prelude.{ℕ, ◌≤◌, List, [], ◌∷◌, ◌++◌, length, nat_eq, Ok, if◌then◌else◌}
-use Rattle.rld_fields.specs.declared.fault.Cause.TheVariants.{CutShort, NoClient, UnknownTag}
-use Rattle.rld_fields.specs.Field.{Field, Reading, fault_at, made_of, both, seen_as, short, short_at}
-use Rattle.rld_fields.specs.Numbers.{number_octets, below}
+use Rattle.rld_spelling.specs.declared.fault.Cause.TheVariants.{CutShort, NoClient, UnknownTag}
+use Rattle.rld_spelling.specs.Field.{Field, Reading, fault_at, made_of, both, seen_as, short, short_at}
+use Rattle.rld_spelling.specs.Numbers.{number_octets, below}
 use Rattle.rsl_event.specs.declared.nas.Nas.{Nas}
 use Rattle.rsl_event.specs.declared.nas.NasName.{NasName}
 use Rattle.rsl_event.specs.declared.nas.NasName.TheVariants.{Identifier, Address, Unnamed}

@@ -2,10 +2,10 @@
 
 ghost use Rattle.std.specs.Prelude.{◌≡◌, ◌++◌, ◌↔◌, List, IsTrue, IfOk, IfSome, OnOk, IsErrOf, None, Ok, All, length};
 ghost use Rattle.std.specs.List.{flat_map};
-ghost use Rattle.rld_fields.specs.Field.{option_spelled, short};
-ghost use Rattle.rld_fields.specs.Lists.{all_of, list_of, values_at};
-ghost use Rattle.rld_fields.specs.Numbers.{number_octets};
-ghost use Rattle.rld_fields.specs.Read.{Gives, Reads, ReadsIn, ReadsInto};
+ghost use Rattle.rld_spelling.specs.Field.{option_spelled, short};
+ghost use Rattle.rld_spelling.specs.Lists.{all_of, list_of, values_at};
+ghost use Rattle.rld_spelling.specs.Numbers.{number_octets};
+ghost use Rattle.rld_spelling.specs.Read.{Gives, Reads, ReadsIn, ReadsInto};
 ghost use Rattle.rld_spelling.specs.Books.{BookSeen, book_seen, books_seen};
 ghost use Rattle.rld_spelling.specs.Books.{DecisionFits, decision_at, decision_octets};
 ghost use Rattle.rld_spelling.specs.Books.{HolderFits, holder_octets, held_at, held_since, is_known, since_at};
@@ -19,7 +19,7 @@ use crate::request::{key_has_spelling, push_key, read_key};
 use crate::server::{
     id_fits, nas_fits, option_fits, push_nas, push_option, read_id, read_nas, read_option,
 };
-use rld_fields::{Cause, Fault, ReadFault, Reader, push_flag, push_number, push_short};
+use crate::{Cause, Fault, ReadFault, Reader, push_flag, push_number, push_short};
 use rsl_event::Decision;
 use rsl_session::{KeptAsk, KeptStop, SavedBook, SavedHolder, SavedLink, Session};
 use rsl_wire::Octets;
@@ -383,7 +383,7 @@ fn push_links(out: &mut Vec<u8>, links: &[SavedLink], clients: u32) -> Result<()
 }
 
 /// Reads `count` links.
-#[tactic(auto, using(rld_fields::proofs::Callers::front_steps))]
+#[tactic(auto, using(crate::proofs::Callers::front_steps))]
 fn read_link_count(
     alloc: Global,
     reader: &mut Reader,
@@ -436,7 +436,7 @@ fn push_asks(out: &mut Vec<u8>, asks: &[KeptAsk], clients: u32) -> Result<(), Al
 }
 
 /// Reads `count` kept asks.
-#[tactic(auto, using(rld_fields::proofs::Callers::front_steps))]
+#[tactic(auto, using(crate::proofs::Callers::front_steps))]
 fn read_ask_count(
     alloc: Global,
     reader: &mut Reader,
@@ -489,7 +489,7 @@ fn push_stops(out: &mut Vec<u8>, stops: &[KeptStop], clients: u32) -> Result<(),
 }
 
 /// Reads `count` kept stops.
-#[tactic(auto, using(rld_fields::proofs::Callers::front_steps))]
+#[tactic(auto, using(crate::proofs::Callers::front_steps))]
 fn read_stop_count(
     alloc: Global,
     reader: &mut Reader,

@@ -1,10 +1,10 @@
 //! Eras: what the numbers of accounts and clients stand for.
 
 ghost use Rattle.std.specs.Prelude.{◌≡◌, ◌++◌, ◌↔◌, IsTrue, IfOk, OnOk, IsErrOf, Ok, All, length, ◌≤◌};
-ghost use Rattle.rld_fields.specs.Lists.{all_of, values_at};
-ghost use Rattle.rld_fields.specs.Read.{Gives, Reads, ReadsIn, ReadsInto};
-ghost use Rattle.rld_fields.specs.declared.fault.Cause.TheVariants.{OutOfRange};
-ghost use Rattle.rld_fields.specs.Numbers.{between_at};
+ghost use Rattle.rld_spelling.specs.Lists.{all_of, values_at};
+ghost use Rattle.rld_spelling.specs.Read.{Gives, Reads, ReadsIn, ReadsInto};
+ghost use Rattle.rld_spelling.specs.declared.fault.Cause.TheVariants.{OutOfRange};
+ghost use Rattle.rld_spelling.specs.Numbers.{between_at};
 ghost use Rattle.rsl_accounts.specs.Field.{is_between, is_name, is_visible};
 ghost use Rattle.rld_spelling.specs.RulesSpelled.{rules_as, rules_at, rules_octets, times_octets};
 ghost use Rattle.rld_spelling.specs.Eras.{account_at, account_field, account_octets, user_name_at};
@@ -12,7 +12,7 @@ ghost use Rattle.rld_spelling.specs.Eras.{accounts_at, accounts_octets, client_a
 
 use crate::fault::SpellFault;
 use crate::server::id_fits;
-use rld_fields::{Cause, Fault, ReadFault, Reader, push_number, push_short};
+use crate::{Cause, Fault, ReadFault, Reader, push_number, push_short};
 use rsl_accounts::Rules;
 use rsl_wire::Octets;
 use std::alloc::{AllocError, Global};
@@ -278,7 +278,7 @@ fn push_clients(out: &mut Vec<u8>, clients: &[EraClient]) -> Result<(), AllocErr
 }
 
 /// Reads `count` accounts.
-#[tactic(auto, using(rld_fields::proofs::Callers::front_steps))]
+#[tactic(auto, using(crate::proofs::Callers::front_steps))]
 fn read_account_count(
     alloc: Global,
     reader: &mut Reader,
@@ -305,7 +305,7 @@ fn read_accounts(alloc: Global, reader: &mut Reader) -> Result<Vec<EraAccount>, 
 }
 
 /// Reads `count` clients.
-#[tactic(auto, using(rld_fields::proofs::Callers::front_steps))]
+#[tactic(auto, using(crate::proofs::Callers::front_steps))]
 fn read_client_count(
     alloc: Global,
     reader: &mut Reader,

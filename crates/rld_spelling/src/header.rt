@@ -1,10 +1,10 @@
 //! Headers of generations.
 
 ghost use Rattle.std.specs.Prelude.{◌≡◌, ◌++◌, IfOk, OnOk, Ok};
-ghost use Rattle.rld_fields.specs.Lists.{all_of};
-ghost use Rattle.rld_fields.specs.Read.{Reads};
+ghost use Rattle.rld_spelling.specs.Lists.{all_of};
+ghost use Rattle.rld_spelling.specs.Read.{Reads};
 
-use rld_fields::{Cause, Fault, Reader, push_number};
+use crate::{Cause, Fault, Reader, push_number};
 use rsl_rule::SESSION_RULE_VERSION;
 use std::alloc::AllocError;
 

@@ -9,6 +9,9 @@
 //!
 //! Accounts and clients are numbers below given counts; this crate knows nothing else of the
 //! configuration.
+//!
+//! They are put together of fields: numbers, octets, flags, options and lists. `specs/Field.antt` says what a field
+//! is; it knows nothing of their meaning.
 #![tactic(auto)]
 
 mod book;
@@ -17,11 +20,15 @@ mod fault;
 mod header;
 pub mod laws;
 mod moves;
+mod reader;
 mod request;
 mod server;
+mod writer;
 
 pub use book::{book_fits, push_book, read_books};
 pub use era::{Era, EraAccount, EraClient};
-pub use fault::SpellFault;
+pub use fault::{Cause, Fault, ReadFault, SpellFault};
 pub use header::{FORMAT_VERSION, Format, Header};
 pub use moves::Counts;
+pub use reader::{MAX_SHORT_LEN, Reader};
+pub use writer::{push_flag, push_number, push_pair, push_short};

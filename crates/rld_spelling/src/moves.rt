@@ -1,12 +1,12 @@
 //! Moves.
 
 ghost use Rattle.std.specs.Prelude.{◌≡◌, ◌++◌, ◌<◌, ◌^◌, ◌↔◌, List, ◌∷◌, IsTrue, IfOk, IfSome, OnOk, IsErrOf, Ok, All, length};
-ghost use Rattle.rld_fields.specs.Field.{optional, option_spelled, short};
-ghost use Rattle.rld_fields.specs.Lists.{all_of, values_at};
+ghost use Rattle.rld_spelling.specs.Field.{optional, option_spelled, short};
+ghost use Rattle.rld_spelling.specs.Lists.{all_of, values_at};
 ghost use Rattle.std.specs.List.{flat_map};
-ghost use Rattle.rld_fields.specs.Numbers.{number, number_octets, below_at};
-ghost use Rattle.rld_fields.specs.Read.{Gives, Reads, ReadsIn, ReadsInto};
-ghost use Rattle.rld_fields.specs.declared.fault.Cause.TheVariants.{NoAccount};
+ghost use Rattle.rld_spelling.specs.Numbers.{number, number_octets, below_at};
+ghost use Rattle.rld_spelling.specs.Read.{Gives, Reads, ReadsIn, ReadsInto};
+ghost use Rattle.rld_spelling.specs.declared.fault.Cause.TheVariants.{NoAccount};
 ghost use Rattle.rld_spelling.specs.Servers.{NameFits, nas_octets};
 ghost use Rattle.rsl_shard.specs.declared.moved.Move.{Move as OneMove};
 ghost use Rattle.rld_spelling.specs.Moves.{MoveFits, OwnFits, own_octets, note_octets, sweep_octets, move_octets, move_field, moves_field};
@@ -18,7 +18,7 @@ use crate::request::{key_has_spelling, push_key, read_key};
 use crate::server::{
     id_fits, nas_fits, option_fits, push_nas, push_option, read_id, read_nas, read_option,
 };
-use rld_fields::{Cause, Fault, ReadFault, Reader, push_flag, push_number, push_short};
+use crate::{Cause, Fault, ReadFault, Reader, push_flag, push_number, push_short};
 use rsl_event::{Act, Event, Key, Nas, Note};
 use rsl_shard::Move;
 use rsl_wire::Octets;
@@ -525,7 +525,7 @@ impl Counts {
     }
 
     /// Reads `count` moves.
-    #[tactic(auto, using(rld_fields::proofs::Callers::front_steps))]
+    #[tactic(auto, using(crate::proofs::Callers::front_steps))]
     fn read_count(
         self,
         alloc: Global,

@@ -1,10 +1,10 @@
 //! The keys of Access-Requests.
 
 ghost use Rattle.std.specs.Prelude.{◌≡◌, ◌++◌, OnOk};
-ghost use Rattle.rld_fields.specs.Read.{Reads};
+ghost use Rattle.rld_spelling.specs.Read.{Reads};
 ghost use Rattle.rld_spelling.specs.Requests.{key_at, key_field, key_octets};
 
-use rld_fields::{Fault, Reader, push_pair};
+use crate::{Fault, Reader, push_pair};
 use rsl_event::{Key, Source};
 use std::alloc::AllocError;
 

@@ -1,11 +1,11 @@
 //! Access servers, and the ids and names beside them.
 
 ghost use Rattle.std.specs.Prelude.{◌≡◌, ◌≤◌, ◌++◌, ◌↔◌, IsTrue, OnOk, IfSome, length};
-ghost use Rattle.rld_fields.specs.Field.{short, short_at, optional, option_spelled};
-ghost use Rattle.rld_fields.specs.Read.{ReadsIn};
+ghost use Rattle.rld_spelling.specs.Field.{short, short_at, optional, option_spelled};
+ghost use Rattle.rld_spelling.specs.Read.{ReadsIn};
 ghost use Rattle.rld_spelling.specs.Servers.{NameFits, name_at, name_octets, nas_at, nas_field, nas_octets};
 
-use rld_fields::{Cause, MAX_SHORT_LEN, ReadFault, Reader, push_flag, push_number, push_short};
+use crate::{Cause, MAX_SHORT_LEN, ReadFault, Reader, push_flag, push_number, push_short};
 use rsl_event::{Nas, NasName};
 use rsl_wire::Octets;
 use std::alloc::{AllocError, Global};

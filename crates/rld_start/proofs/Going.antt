@@ -1,6 +1,6 @@
 -- A start goes on from what was found in a log.
 use Rattle.std.proofs.Common.{◌≡◌, ℕ, List, Result, Ok, Err, IfOk, ap, length, subst, sym, ◌∙◌}
-use Rattle.rld_admit.specs.Admitted.{AreAdmitted}
+use Rattle.rld_books.specs.Admitted.{AreAdmitted}
 use Rattle.rld_books.specs.Saved.{IsServerOf}
 use Rattle.rld_spelling.specs.Tables.{table_of}
 use Rattle.rld_spelling.specs.declared.header.Header.{Header}

@@ -1,7 +1,7 @@
 -- What a start goes on with, by the log of the generation that counts.
 use Rattle.std.specs.Prelude.{◌≡◌, ◌<◌, ◌^◌, ◌⊎◌, ℕ, List, length}
 use Rattle.md5.specs.Md5.{md5}
-use Rattle.rld_admit.specs.Admitted.{AreAdmitted}
+use Rattle.rld_books.specs.Admitted.{AreAdmitted}
 use Rattle.rld_books.specs.Cut.{cut_server, late_in_server}
 use Rattle.rld_books.specs.Saved.{IsServerOf}
 use Rattle.rld_books.specs.Server.{replay}

@@ -3,7 +3,7 @@
 ghost use Rattle.std.specs.Prelude.{◌≡◌, ◌+◌, ◌↔◌, ℕ, Contains, map, IfErr, IfOk, IfSome, IsTrue, Some};
 ghost use Rattle.std.specs.Option.{option_map};
 ghost use Rattle.md5.specs.Md5.{md5};
-ghost use Rattle.rld_admit.specs.Admitted.{AreAdmitted};
+ghost use Rattle.rld_books.specs.Admitted.{AreAdmitted};
 ghost use Rattle.rld_books.specs.Saved.{IsServerOf};
 ghost use Rattle.rld_folder.specs.Newest.{Precedes};
 ghost use Rattle.rld_spelling.specs.Eras.{era_octets};
@@ -26,8 +26,7 @@ use crate::reopening::{EraTable, Former, reopen};
 use crate::starting::Started;
 use crate::table::config_in;
 use crate::wrong::{Cause, Wrong};
-use rld_admit::{admit, era_file};
-use rld_books::{BlankBooks, ServerBooks, ServerFault};
+use rld_books::{BlankBooks, ServerBooks, ServerFault, admit, era_file};
 use rld_folder::{FileName, Folder, Generation, Synced};
 use rld_log::Pacing;
 use rld_spelling::Header;
@@ -182,7 +181,7 @@ fn found_changed(
 
 /// The books admitted from a generation, in blank ones if there are any. `BadLog` with the cause
 /// `Misfit` comes for no books of a log, since what is carried over can be restored
-/// (`rld_admit::laws::carried_books_fit`). `NoMemory` comes if memory is refused.
+/// (`rld_books::laws::carried_books_fit`). `NoMemory` comes if memory is refused.
 pub fn admitted_books(
     alloc: Global,
     old: &Config,

@@ -13,8 +13,7 @@ use crate::listed::Listed;
 use crate::new_era::{MadeEra, NextEra, make_era};
 use crate::number::{era_after, generation_after};
 use crate::written::Written;
-use rld_admit::era_file;
-use rld_books::BlankBooks;
+use rld_books::{BlankBooks, era_file};
 use rld_config::Archive;
 use rld_folder::{
     ArchivedLog, FileName, Folder, FolderFault, Generation, LogKey, NewLog, Removed, RoomMade,

@@ -18,7 +18,7 @@ use crate::header::check_header;
 use crate::newest::Begun;
 use crate::refused::log_refused;
 use crate::table::boot_of;
-use rld_admit::is_era_file;
+use rld_books::is_era_file;
 use rld_folder::{FileName, Folder, Generation};
 use rld_log::{FileLog, Frames, Log, PacedLog, Pacing};
 use rld_spelling::Header;

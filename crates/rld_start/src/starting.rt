@@ -30,8 +30,7 @@ use crate::newest::{Begun, Newest, newest_begun};
 use crate::number::next_generation;
 use crate::refused::log_refused;
 use crate::reopening::{EraTable, Former, read_table, reopen};
-use rld_admit::{era_file, is_era_file};
-use rld_books::ServerBooks;
+use rld_books::{ServerBooks, era_file, is_era_file};
 use rld_config::NewHistory;
 use rld_folder::{FileName, Folder, LogKey, NewLog};
 use rld_log::{FileLog, PacedLog, Pacing};
@@ -60,7 +59,7 @@ pub struct Started<'a> {
 
 /// Starts a server from its folder: opens and locks it, and goes on from the newest generation that
 /// was begun. If the era of that one has the configuration's table, it goes on in a new generation
-/// of it; else in a new era, which begins with the admitted books (`rld_admit::admit`) under the
+/// of it; else in a new era, which begins with the admitted books (`rld_books::admit`) under the
 /// same boot number. If no generation was begun, a new era begins, whose boot number is `now`, in
 /// seconds since 1970, unless a new history is refused. Its logs are synced to the disk as the pacing says. If the books' greatest
 /// clock is 60 seconds or more after `now`, `found` says so.

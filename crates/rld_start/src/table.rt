@@ -1,16 +1,15 @@
 //! The table of the era of a generation.
 
 ghost use Rattle.std.specs.Prelude.{◌≡◌, ℕ, IfOk};
-ghost use Rattle.rld_fields.specs.Lists.{all_of};
+ghost use Rattle.rld_spelling.specs.Lists.{all_of};
 ghost use Rattle.rld_spelling.specs.Eras.{EraSeen, era_octets};
 ghost use Rattle.rld_spelling.specs.Tables.{table_of};
 
 use crate::fault::StartFault;
 use crate::wrong::{Cause, Wrong};
-use rld_admit::{TableFault, config_of};
-use rld_fields::{Fault, ReadFault};
+use rld_books::{TableFault, config_of};
 use rld_folder::FileName;
-use rld_spelling::Era;
+use rld_spelling::{Era, Fault, ReadFault};
 use rsl_accounts::Config;
 use std::alloc::Global;
 

@@ -1,9 +1,9 @@
 ghost use Rattle.std.specs.Prelude.{◌≡◌};
 
 use rld_books::ServerFault;
-use rld_fields as fields;
 use rld_folder::FileName;
 use rld_log::HEAD_LEN;
+use rld_spelling as spelling;
 use rld_store::StoreFault;
 use std::fmt;
 use thiserror::Error;
@@ -16,7 +16,7 @@ pub enum Cause {
     Damaged,
     /// The octets spell nothing that can be here.
     #[error("{0}")]
-    Malformed(fields::Cause),
+    Malformed(spelling::Cause),
     /// The header has the numbers of another generation than the name of the file.
     #[error("a header of another generation")]
     OtherGeneration,

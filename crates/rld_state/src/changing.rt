@@ -2,7 +2,7 @@
 
 ghost use Rattle.std.specs.Prelude.{◌≡◌, ◌<◌, ◌||◌, [], false, true, ℕ, IfErr, IfOk, IsErrOf, IsTrue, OnErr, OnOk};
 ghost use Rattle.std.specs.Arc.{arc_value};
-ghost use Rattle.rld_admit.specs.Admitted.{AreAdmitted};
+ghost use Rattle.rld_books.specs.Admitted.{AreAdmitted};
 ghost use Rattle.rld_books.specs.Saved.{IsServerOf};
 ghost use Rattle.rld_state.specs.Headers.{IsHeaderOf};
 ghost use Rattle.rld_state.specs.Keeping.{IsGone, is_over};

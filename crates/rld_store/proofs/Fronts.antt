@@ -11,7 +11,7 @@ use Rattle.rsl_shard.specs.Restep.{BooksSeen}
 use Rattle.rsl_shard.specs.declared.moved.Move.{Move}
 use Rattle.rld_books.specs.Saved.{IsServerOf, saved_server}
 use Rattle.rld_books.specs.Server.{replay}
-use Rattle.rld_fields.specs.Numbers.{number_octets}
+use Rattle.rld_spelling.specs.Numbers.{number_octets}
 use Rattle.rld_log.specs.Frames.{Fits, HasPayloads, frames}
 use Rattle.rld_log.specs.Log.{NoMore, Only}
 use Rattle.rld_log.specs.Recording.{IsBeforeOrAfter, IsSettled}

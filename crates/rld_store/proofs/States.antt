@@ -1,8 +1,8 @@
 -- Which books a snapshot and its moves stand for: one state, whatever was read of it.
 use Rattle.std.proofs.Common.{◌≡◌, ℕ, ◌<◌, ◌^◌, List, [], ◌∷◌, ◌++◌, Ok, Result, map, refl, sym, ap, ◌∙◌, arith}
 use Rattle.std.specs.List.{AllByRecursion}
-use Rattle.rld_fields.specs.Field.{Field, IsRead}
-use Rattle.rld_fields.specs.declared.fault.Fault.{Fault}
+use Rattle.rld_spelling.specs.Field.{Field, IsRead}
+use Rattle.rld_spelling.specs.declared.fault.Fault.{Fault}
 use Rattle.rsl_accounts.specs.Configuration.{Configuration}
 use Rattle.rsl_accounts.specs.Limits.{IsConfiguration}
 use Rattle.rsl_session.specs.Saved.{saved_book}

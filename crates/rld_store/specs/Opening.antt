@@ -6,9 +6,9 @@ use Rattle.rsl_shard.specs.Restep.{BooksSeen}
 use Rattle.rsl_shard.specs.declared.moved.Move.{Move}
 use Rattle.rld_books.specs.Saved.{IsServerOf}
 use Rattle.rld_books.specs.Server.{replay}
-use Rattle.rld_fields.specs.Field.{Reading}
-use Rattle.rld_fields.specs.Lists.{all_of}
-use Rattle.rld_fields.specs.declared.fault.Fault.{Fault}
+use Rattle.rld_spelling.specs.Field.{Reading}
+use Rattle.rld_spelling.specs.Lists.{all_of}
+use Rattle.rld_spelling.specs.declared.fault.Fault.{Fault}
 use Rattle.rld_log.specs.Frames.{HasPayloads, IsDamagedAt, frames}
 use Rattle.rld_log.specs.Log.{NoMore}
 use Rattle.rld_log.specs.declared.log.Ending.{Ending}

@@ -13,9 +13,8 @@ ghost use Rattle.rld_store.specs.Generations.{HasGeneration, IsUnbegun, counts_o
 
 use crate::fault::StoreFault;
 use rld_books::ServerBooks;
-use rld_fields::push_number;
 use rld_log::{HEAD_LEN, Log, LogFault, record};
-use rld_spelling::{Counts, Header, push_book};
+use rld_spelling::{Counts, Header, push_book, push_number};
 use rsl_accounts::Config;
 use rsl_session::SavedBook;
 use std::alloc::Global;

@@ -3,9 +3,8 @@ ghost use Rattle.rld_store.specs.Stored.{record_fault};
 ghost use Rattle.rld_store.specs.declared.fault.StoreFault.TheVariants.{Damaged as damaged, Log as log_failed, Malformed as malformed, NoMemory as no_memory};
 
 use rld_books::ServerFault;
-use rld_fields::Cause;
 use rld_log::{Damage, Log, LogFault};
-use rld_spelling::SpellFault;
+use rld_spelling::{Cause, SpellFault};
 use rsl_wire::NoMemory;
 use std::alloc::AllocError;
 use thiserror::Error;

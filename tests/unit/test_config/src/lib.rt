@@ -1,4 +1,4 @@
-//! Tests of the public calls of `rld_config` and `rld_warnings`: rows of text, as `test_rows` has them.
+//! Tests of the public calls of `rld_config`: rows of text, as `test_rows` has them.
 //! The fields of a row are the lines of a server's file.
 #![tactic(auto)]
 

@@ -4,9 +4,9 @@
 use crate::server_file::text_of;
 use rld_config::{
     AskSettings, asker_fault, passed_over, shadowed_client, unknown_client, unsigned_client,
+    warnings,
 };
 use rld_networks::{Network, prefix_of};
-use rld_warnings::warnings;
 use rsl_account_file::read_config;
 use rsl_accounts::Text;
 use rsl_reply::Dictionary;

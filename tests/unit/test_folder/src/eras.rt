@@ -1,6 +1,6 @@
 //! Eras: the file of one, and the account files with which it goes on.
 
-use rld_admit::{era_file, is_era_file};
+use rld_books::{era_file, is_era_file};
 use rsl_account_file::read_config;
 use rsl_accounts::Config;
 use rsl_reply::Dictionary;

@@ -1,6 +1,5 @@
-use rld_fields::ReadFault;
 use rld_log::LogFault;
-use rld_spelling::SpellFault;
+use rld_spelling::{ReadFault, SpellFault};
 use rld_store::StoreFault;
 use rsl_accounts::ConfigFault;
 use rsl_book::RestoreFault;

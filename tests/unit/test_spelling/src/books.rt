@@ -2,8 +2,7 @@
 
 use crate::draw::{COUNTS, Draw};
 use crate::written::books_told;
-use rld_fields::{ReadFault, push_number};
-use rld_spelling::{push_book, read_books};
+use rld_spelling::{ReadFault, push_book, push_number, read_books};
 use std::alloc::Global;
 use std::test::Fail;
 use test_rows::{Subject, check_rows, octets_of, printed};

@@ -3,8 +3,7 @@
 
 use crate::draw::{COUNTS, Draw};
 use crate::lived::lived;
-use rld_fields::{ReadFault, push_number};
-use rld_spelling::{Era, FORMAT_VERSION, Header, push_book, read_books};
+use rld_spelling::{Era, FORMAT_VERSION, Header, ReadFault, push_book, push_number, read_books};
 use rsl_session::SavedBook;
 use std::alloc::Global;
 use std::test::Fail;

@@ -1,4 +1,4 @@
-//! Tests of `rld_fields` and `rld_spelling`: worked rows of octets, random moves and books there and
+//! Tests of `rld_spelling`: worked rows of octets, random moves and books there and
 //! back, books that lived put back, and snapshots and tables of which an octet is changed. Octets of rows are written by hand from the
 //! tables of docs/FOLDER.md.
 #![tactic(auto)]

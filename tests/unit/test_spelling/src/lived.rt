@@ -1,8 +1,7 @@
 //! Books that lived: random events of an account, and what its book then holds, there and back.
 
 use crate::draw::{COUNTS, Draw};
-use rld_fields::push_number;
-use rld_spelling::{push_book, read_books};
+use rld_spelling::{push_book, push_number, read_books};
 use rsl_accounts::Rules;
 use rsl_book::Book;
 use rsl_session::SavedBook;

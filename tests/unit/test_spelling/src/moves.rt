@@ -2,8 +2,7 @@
 
 use crate::draw::{COUNTS, Draw};
 use crate::written::moves_told;
-use rld_fields::ReadFault;
-use rld_spelling::{Counts, SpellFault};
+use rld_spelling::{Counts, ReadFault, SpellFault};
 use rsl_event::{Act, Event, Nas, NasName};
 use rsl_shard::Move;
 use rsl_wire::Octets;

@@ -1,8 +1,7 @@
 //! Tables of eras and headers: worked rows, and tables that are not written.
 
 use crate::written::{era_told, header_told};
-use rld_fields::{Fault, ReadFault};
-use rld_spelling::{Era, EraAccount, EraClient, Header, SpellFault};
+use rld_spelling::{Era, EraAccount, EraClient, Fault, Header, ReadFault, SpellFault};
 use rsl_accounts::Rules;
 use rsl_wire::Octets;
 use std::alloc::Global;

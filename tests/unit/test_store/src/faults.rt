@@ -2,8 +2,8 @@
 
 use crate::server::*;
 use rld_books::ServerFault;
-use rld_fields::Cause;
 use rld_log::{Damage, frame_of};
+use rld_spelling::Cause;
 use rld_store::{Malformed, Store, StoreFault};
 use rsl_book::RestoreFault;
 use std::alloc::Global;

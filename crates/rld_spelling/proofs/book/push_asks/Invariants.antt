@@ -1,6 +1,6 @@
 use Rattle.std.proofs.Common.{◌≡◌, ◌++◌, length, take}
 use Rattle.std.specs.List.{flat_map}
-use Rattle.rld_fields.specs.Numbers.{number_octets}
+use Rattle.rld_spelling.specs.Numbers.{number_octets}
 use Rattle.rld_spelling.specs.Books.{kept_ask_octets}
 use Rattle.rld_spelling.proofs.book.push_asks.Given as goal
 

@@ -1,6 +1,6 @@
 use Rattle.std.proofs.lemmas.Result.{err_from_is_err_and}
-use Rattle.rld_fields.specs.Lists.{values_at}
-use Rattle.rld_fields.proofs.Callers.{front_all, front_fault}
+use Rattle.rld_spelling.specs.Lists.{values_at}
+use Rattle.rld_spelling.proofs.Callers.{front_all, front_fault}
 use Rattle.rld_spelling.specs.Books.{kept_ask_at}
 use Rattle.rld_spelling.proofs.book.read_ask_count.Goals as goal
 

@@ -1,6 +1,6 @@
 use Rattle.std.proofs.lemmas.Result.{err_from_is_err_and}
-use Rattle.rld_fields.specs.Lists.{values_at}
-use Rattle.rld_fields.proofs.Callers.{front_all, front_fault}
+use Rattle.rld_spelling.specs.Lists.{values_at}
+use Rattle.rld_spelling.proofs.Callers.{front_all, front_fault}
 use Rattle.rld_spelling.specs.Books.{book_at, books_seen}
 use Rattle.rld_spelling.proofs.book.read_book_count.Goals as goal
 

@@ -1,5 +1,5 @@
 use Rattle.std.proofs.Common.{arith}
-use Rattle.rld_fields.proofs.Callers.{all_found, all_only}
+use Rattle.rld_spelling.proofs.Callers.{all_found, all_only}
 use Rattle.rld_spelling.specs.Books.{books_field, books_seen}
 use Rattle.rld_spelling.proofs.BookLaws.{books_read}
 use Rattle.rld_spelling.proofs.book.read_books.Goals as goal

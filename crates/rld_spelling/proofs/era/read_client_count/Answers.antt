@@ -1,7 +1,7 @@
 use Rattle.std.proofs.lemmas.Result.{err_from_is_err_and}
-use Rattle.rld_fields.specs.Lists.{values_at}
-use Rattle.rld_fields.specs.declared.fault.ReadFault.TheVariants.{Malformed}
-use Rattle.rld_fields.proofs.Callers.{front_all, front_fault}
+use Rattle.rld_spelling.specs.Lists.{values_at}
+use Rattle.rld_spelling.specs.declared.fault.ReadFault.TheVariants.{Malformed}
+use Rattle.rld_spelling.proofs.Callers.{front_all, front_fault}
 use Rattle.rld_spelling.specs.Eras.{client_at}
 use Rattle.rld_spelling.proofs.era.read_client_count.Goals as goal
 

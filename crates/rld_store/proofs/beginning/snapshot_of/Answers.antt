@@ -1,6 +1,6 @@
 use Rattle.std.proofs.lemmas.List.Elements.{All-nil}
 use Rattle.rld_spelling.specs.Books.{book_field}
-use Rattle.rld_fields.specs.Numbers.{number_octets}
+use Rattle.rld_spelling.specs.Numbers.{number_octets}
 use Rattle.std.proofs.Common.{arith, length, refl}
 use Rattle.rld_store.proofs.Fronts.{fit_all, fit_more, octets_all, octets_begun, octets_more}
 use Rattle.rld_store.proofs.beginning.snapshot_of.Goals as goal

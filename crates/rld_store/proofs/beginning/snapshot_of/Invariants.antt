@@ -1,6 +1,6 @@
 use Rattle.std.proofs.Common.{◌≡◌, ◌++◌, length, take, All}
 use Rattle.std.specs.List.{flat_map}
-use Rattle.rld_fields.specs.Numbers.{number_octets}
+use Rattle.rld_spelling.specs.Numbers.{number_octets}
 use Rattle.rld_spelling.specs.Books.{book_field, book_octets, books_seen}
 use Rattle.rld_store.proofs.beginning.snapshot_of.Given as goal
 

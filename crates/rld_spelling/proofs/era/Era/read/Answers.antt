@@ -1,5 +1,5 @@
 use Rattle.std.proofs.Common.{arith}
-use Rattle.rld_fields.proofs.Callers.{all_found, all_only}
+use Rattle.rld_spelling.proofs.Callers.{all_found, all_only}
 use Rattle.rld_spelling.specs.Eras.{era_field, era_seen}
 use Rattle.rld_spelling.proofs.EraLaws.{era_read}
 use Rattle.rld_spelling.proofs.era.Era.read.Goals as goal

@@ -1,5 +1,5 @@
 use Rattle.std.proofs.Common.{◌∙◌, arith}
-use Rattle.rld_fields.proofs.Callers.{all_is, all_again}
+use Rattle.rld_spelling.proofs.Callers.{all_is, all_again}
 use Rattle.rld_spelling.specs.Headers.{header_field}
 use Rattle.rld_spelling.proofs.HeaderLaws.{header_read}
 use Rattle.rld_spelling.proofs.header.Header.read.Goals as goal

@@ -1,6 +1,6 @@
 use Rattle.std.proofs.Common.{◌≡◌, ◌-◌}
-use Rattle.rld_fields.specs.Lists.{values_at}
-use Rattle.rld_fields.proofs.Callers.{with_front}
+use Rattle.rld_spelling.specs.Lists.{values_at}
+use Rattle.rld_spelling.proofs.Callers.{with_front}
 use Rattle.rld_spelling.specs.Moves.{move_at}
 use Rattle.rld_spelling.proofs.moves.Counts.read_count.Given as goal
 

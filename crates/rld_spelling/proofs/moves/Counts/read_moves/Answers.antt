@@ -1,5 +1,5 @@
 use Rattle.std.proofs.Common.{arith}
-use Rattle.rld_fields.proofs.Callers.{all_found, all_only}
+use Rattle.rld_spelling.proofs.Callers.{all_found, all_only}
 use Rattle.rld_spelling.specs.Moves.{moves_field}
 use Rattle.rld_spelling.proofs.MoveLaws.{moves_read}
 use Rattle.rld_spelling.proofs.moves.Counts.read_moves.Goals as goal

@@ -1,5 +1,5 @@
 use Rattle.std.proofs.Common.{◌≡◌, ◌∙◌, ℕ, List, Ok, Result, map, refl, sym, ap, subst}
-use Rattle.rld_fields.specs.declared.fault.Fault.{Fault}
+use Rattle.rld_spelling.specs.declared.fault.Fault.{Fault}
 use Rattle.rsl_session.specs.Saved.{saved_book}
 use Rattle.rsl_session.specs.declared.saved.SavedBook.{SavedBook}
 use Rattle.rld_spelling.specs.Books.{BookSeen, books_field, books_seen}

@@ -1,5 +1,0 @@
-use Rattle.rld_admit.proofs.Numbering.{clients_keep}
-use Rattle.rld_admit.proofs.laws.clients_keep_their_address.Goals as goal
-
-pub returns : goal.returns
-returns c = clients_keep

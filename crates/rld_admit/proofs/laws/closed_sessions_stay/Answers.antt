@@ -1,5 +1,0 @@
-use Rattle.rld_admit.proofs.Carrying.{closed_stay}
-use Rattle.rld_admit.proofs.laws.closed_sessions_stay.Goals as goal
-
-pub returns : goal.returns
-returns c = closed_stay

@@ -1,5 +1,0 @@
-use Rattle.rld_admit.proofs.Carrying.{nobody_new}
-use Rattle.rld_admit.proofs.laws.nobody_new_comes_in.Goals as goal
-
-pub returns : goal.returns
-returns c = nobody_new

@@ -1,5 +1,0 @@
-use Rattle.rld_admit.proofs.Carrying.{limit_holds}
-use Rattle.rld_admit.proofs.laws.places_stay_within_the_limit.Goals as goal
-
-pub returns : goal.returns
-returns c = limit_holds

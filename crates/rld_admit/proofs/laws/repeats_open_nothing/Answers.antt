@@ -1,5 +1,0 @@
-use Rattle.rld_admit.proofs.Carrying.{repeats_stay}
-use Rattle.rld_admit.proofs.laws.repeats_open_nothing.Goals as goal
-
-pub returns : goal.returns
-returns c = repeats_stay

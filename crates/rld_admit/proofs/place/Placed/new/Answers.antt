@@ -1,5 +1,0 @@
-use Rattle.rld_admit.proofs.Placing.{none_placed}
-use Rattle.rld_admit.proofs.place.Placed.new.Goals as goal
-
-pub returns-clause-places : goal.returns-clause-places
-returns-clause-places c = λ ports. none_placed ports

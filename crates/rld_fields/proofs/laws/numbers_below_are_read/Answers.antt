@@ -1,5 +1,0 @@
-use Rattle.rld_fields.proofs.Numbered.{below_read}
-use Rattle.rld_fields.proofs.laws.numbers_below_are_read.Goals as goal
-
-pub returns : goal.returns
-returns c = below_read

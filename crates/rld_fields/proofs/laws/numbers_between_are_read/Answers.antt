@@ -1,5 +1,0 @@
-use Rattle.rld_fields.proofs.Numbered.{between_read}
-use Rattle.rld_fields.proofs.laws.numbers_between_are_read.Goals as goal
-
-pub returns : goal.returns
-returns c = between_read

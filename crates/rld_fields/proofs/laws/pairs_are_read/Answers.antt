@@ -1,5 +1,0 @@
-use Rattle.rld_fields.proofs.Numbered.{pair_read}
-use Rattle.rld_fields.proofs.laws.pairs_are_read.Goals as goal
-
-pub returns : goal.returns
-returns c = pair_read

@@ -1,4 +1,0 @@
-pub mod Field
-pub mod Lists
-pub mod Numbers
-pub mod Read

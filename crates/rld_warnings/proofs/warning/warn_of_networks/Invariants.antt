@@ -1,6 +1,0 @@
-use Rattle.std.proofs.Common.{◌≡◌, ◌++◌, take}
-use Rattle.rld_warnings.specs.Warning.{network_warnings}
-use Rattle.rld_warnings.proofs.warning.warn_of_networks.Given as goal
-
-abbrev pub invariant-loop-network : goal.invariant-loop-network
-invariant-loop-network l = l.warnings.items ≡ l.fn.warnings.items ++ network_warnings (take l.network-index l.networks)
