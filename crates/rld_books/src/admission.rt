@@ -12,7 +12,7 @@ ghost use Rattle.rld_books.specs.Begun.{begun_at, begun_by_all, begun_in};
 
 use crate::carry::{carry, new_saved};
 use crate::clients::next_numbers;
-use rld_books::{BlankBooks, ServerBooks, ServerFault};
+use crate::{BlankBooks, ServerBooks, ServerFault};
 use rsl_accounts::Config;
 use rsl_session::SavedBook;
 use rsl_wire::NoMemory;

@@ -21,7 +21,7 @@ ghost use Rattle.rld_config.specs.Warning.{
   warnings_of,
 };
 
-use rld_config::others_read;
+use crate::others_read;
 use rld_networks::{Network, Prefix};
 use rsl_accounts::{Client, Config, Rules, UnsignedRule};
 use rsl_wire::NoMemory;
