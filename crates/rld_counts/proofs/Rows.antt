@@ -36,7 +36,7 @@ said_by {B} {C} table f g none rows i number d same len below is =
     ∙ sym (column g none table i) ∙ ap (λ (n : ℕ). option_map_or g (slice_get table n) none) is
 
 -- the kind that stands at the number of a cause is its kind
-pub kind_is : (cause : Cause) → option_map_or (λ (row : Row). row.1) (slice_get TABLE.now (number_of cause)) kinds.Failed ≡ kind_of cause
+pub kind_is : (cause : Cause) → option_map_or (λ row. row.1) (slice_get TABLE.now (number_of cause)) kinds.Failed ≡ kind_of cause
 unfolding kind_of
 kind_is causes.Short = refl
 kind_is causes.BadLength = refl
