@@ -1,6 +1,5 @@
 -- What recording a batch leaves of a store: a decision on each move, or the history as it was.
 use Rattle.std.proofs.Common.{◌≡◌, ◌⊎◌, inl, inr, ℕ, suc, List, [], ◌∷◌, length, refl, ap, ◌∙◌}
-use Rattle.std.specs.Prelude.{Result, Ok, Err, OnErr}
 use Rattle.std.proofs.lemmas.List.{length-map}
 use Rattle.rsl_accounts.specs.Configuration.{Configuration}
 use Rattle.rsl_shard.specs.Restep.{BooksSeen}
@@ -24,11 +23,6 @@ pub count_decided : (begun : List BooksSeen) (moves : List Move)
     → length (decisions_of begun moves) ≡ length moves
 count_decided begun moves =
     length-map (journal_of begun moves) (λ (line : Line). line.decision) ∙ count_lines begun moves
-
--- what holds anyway holds of a fault
-pub on_err : {A B : Type 0} {P : Type 0} (result : Result A B) → P → OnErr result P
-on_err (Ok value) holds = tt
-on_err (Err fault) holds = holds
 
 -- a batch was not recorded: it or the one before it is left unanswered
 pub recorded_still : (config : Configuration) (opening : List BooksSeen) (counts : Counts)

@@ -21,7 +21,6 @@ mod freeing;
 mod listing;
 mod not_held;
 mod places;
-mod recording;
 mod reload_result;
 mod roll_fault;
 mod sought;

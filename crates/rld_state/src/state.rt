@@ -7,7 +7,7 @@ ghost use Rattle.rld_state.specs.Keeping.{IsGone, ends, is_failed, is_over, move
 ghost use Rattle.rld_spelling.specs.Tables.{table_of};
 ghost use Rattle.rld_start.specs.NextHeaders.{generation_named, header_after};
 ghost use Rattle.rld_store.specs.Premises.{Only};
-ghost use Rattle.rld_store.specs.Recorded.{AreDecided, IsOfEra, is_ended};
+ghost use Rattle.rld_store.specs.Recorded.{AreDecided, IsOfEra, is_ended, is_last};
 ghost use Rattle.rld_store.specs.Standing.{StandsFor};
 ghost use Rattle.rld_store.specs.Stored.{HasRecorded};
 ghost use Rattle.rld_store.specs.declared.fault.RecordFault.TheVariants.{Ended as over, Failed as failed};
@@ -16,7 +16,6 @@ ghost use Rattle.rsl_shard.specs.Restep.{BooksSeen};
 ghost use Rattle.rsl_shard.specs.declared.moved.Move.{Move as OneMove};
 
 use crate::changing::Opening;
-use crate::recording::{is_ended, is_failed, is_of_era, moves_after, record_in};
 use crate::reload_result::{PresentEra, Reloaded};
 use crate::roll_fault::{NotBegun, RollFault};
 use rld_folder::{FolderFault, Generation, LogKey, Removed};
@@ -29,6 +28,24 @@ use rsl_shard::Move;
 use std::alloc::{AllocError, Global};
 use std::mem;
 use std::sync::Arc;
+
+/// Whether a batch that was prepared with the accounts of the era `era`, or that names no account, if
+/// that is `None`, can be recorded in the era `own`.
+fn is_of_era(era: Option<u64>, own: u64) -> bool
+    ensures { IsTrue result ↔ IsOfEra era own }
+{
+    match era {
+        Some(era) => own == era,
+        None => true,
+    }
+}
+
+/// Whether nothing more can be recorded after this fault.
+fn is_last(fault: RecordFault) -> bool
+    ensures { result ≡ is_last fault }
+{
+    matches!(fault, RecordFault::Ended)
+}
 
 /// A generation that did not begin, and the right to remove its log.
 #[derive(Drop)]
@@ -129,11 +146,18 @@ impl<L: Log + Drop> ServerState<L> {
             return Err(RecordFault::Failed);
         }
         let count = batch.len() as u64;
-        let outcome = record_in(&mut self.recorder, alloc, batch);
-        self.moves = moves_after(self.moves, count, &outcome);
-        self.has_failed = self.has_failed || is_failed(&outcome);
-        self.has_ended = self.has_ended || is_ended(&outcome);
-        outcome
+        match self.recorder.commit(alloc, batch) {
+            Ok(recorded) => {
+                self.moves = self.moves.saturating_add(count);
+                Ok(recorded)
+            }
+            Err(fault) => {
+                let fault = RecordFault::from(fault);
+                self.has_failed = self.has_failed || !is_last(fault);
+                self.has_ended = self.has_ended || is_last(fault);
+                Err(fault)
+            }
+        }
     }
 
     /// Whether nothing more can be recorded.

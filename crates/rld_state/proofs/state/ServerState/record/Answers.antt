@@ -1,12 +1,26 @@
-use Rattle.std.proofs.Common.{◌∙◌}
+use Rattle.std.proofs.Common.{ap, length, subst, sym, ◌∙◌, List}
 use Rattle.std.specs.Arc.{arc_value}
+use Rattle.rld_books.proofs.Callers.{replay_is_of}
+use Rattle.rld_books.specs.Saved.{IsServerOf}
+use Rattle.rsl_shard.specs.Restep.{BooksSeen}
+use Rattle.rld_state.proofs.Batches.{count_decided, recorded_still}
 use Rattle.rld_state.proofs.state.ServerState.record.Goals as goal
 
 -- the books stay those of the accounts, and the store goes on in its generation
-pub invariant_of-self-2 : goal.invariant_of-self-2
-invariant_of-self-2 g c = record {
-  server = c.record_in-outcome.ensures.server (arc_value c.args.self.now.config) c.args.self.now.server;
+pub invariant_of-self-in-Ok : goal.invariant_of-self-in-Ok
+invariant_of-self-in-Ok g c = record {
+  server = subst (λ (books : List BooksSeen). IsServerOf (arc_value c.args.self.now.config) books) (sym c.in-Ok.ensures.books)
+      (replay_is_of (arc_value c.args.self.now.config) c.args.self.now.recorder.books c.args.batch.items c.args.self.now.server);
   table = c.args.self.now.table;
-  written = c.record_in-outcome.ensures.header ∙ c.args.self.now.written;
+  written = c.commit.ensures.header ∙ c.args.self.now.written;
   kept = c.args.self.now.kept;
 }
+
+pub returns-in-Ok-clause-count : goal.returns-in-Ok-clause-count
+returns-in-Ok-clause-count g c =
+    ap length c.in-Ok.ensures.decisions ∙ count_decided c.args.self.now.recorder.books c.args.batch.items
+
+pub returns-after-self-3-clause-unrecorded : goal.returns-after-self-3-clause-unrecorded
+returns-after-self-3-clause-unrecorded g c = λ told config opening history so.
+    let was = so (c.commit.ensures.told told) in
+    recorded_still _ _ _ _ _ _ _ _ _ _ _ _ (c.in-Err.ensures.left told config opening history was.unanswered was.stands)
