@@ -4,10 +4,10 @@ use Rattle.std.specs.List.{AllByRecursion}
 use Rattle.std.proofs.lemmas.List.{append-nil, take_at}
 use Rattle.rld_log.specs.declared.log.Ending.{Ending}
 use Rattle.rld_log.specs.declared.log.Ending.TheVariants.{Kill, PowerLoss}
-use Rattle.rld_log.specs.Frames.{EndsAt, Fits, HasPayloads, frame, frames}
+use Rattle.rld_log.specs.Frames.{Fits, HasPayloads, frame, frames}
 use Rattle.rld_log.specs.Log.{Appends, Cuts, Detects, Extends, Follows, Only, Premise, Tears}
 use Rattle.rld_log.specs.Recording.{IsBeforeOrAfter, IsSettled, LeavesEither}
-use Rattle.rld_log.proofs.Readings.{all_fit_more, frames_more, have_one_reading, kills_are_detected, nothing_is_torn}
+use Rattle.rld_log.proofs.Readings.{all_fit_more, frames_more, kills_are_detected, nothing_is_torn}
 
 -- whole frames are a file
 pub whole_has : (file : List ℕ) (payloads : List (List ℕ)) → AllByRecursion Fits payloads → file ≡ frames payloads → HasPayloads file payloads

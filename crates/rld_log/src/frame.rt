@@ -1,4 +1,4 @@
-ghost use Rattle.std.specs.Prelude.{◌≡◌, ◌↔◌, IsTrue, ℕ, ◌+◌, ◌<◌, ◌≤◌, List, ◌++◌, length, take, drop, IfNone, IfOk, IfSome};
+ghost use Rattle.std.specs.Prelude.{◌≡◌, ◌↔◌, IsTrue, ℕ, ◌+◌, ◌<◌, ◌≤◌, List, ◌++◌, length, take, drop, IfNone, IfOk, IfSome, OnOk};
 ghost use Rattle.std.specs.Int.{from_be_bytes, w32};
 ghost use Rattle.rld_log.specs.Frames.{Fits, HasFrame, IsBlock, NoBlock, NoFrame, block, digest, frame};
 
@@ -36,16 +36,47 @@ fn is_digest(sum: &[u8], payload: &[u8]) -> bool
     sum == want.as_slice()
 }
 
-/// The frame of a payload.
+/// Clears a buffer, and leaves room in it for the head of a frame: the payload is to stand behind
+/// that. If memory is refused the buffer may hold anything.
+pub fn leave_head(octets: &mut Vec<u8>) -> Result<(), AllocError>
+    ensures { OnOk result (length octets.new.items ≡ 20) }
+{
+    octets.clear();
+    octets.extend_from_slice(&[0; HEAD_LEN])
+}
+
+/// Fills the head of a frame, in the room before its payload.
 #[tactic(auto, unfolding(crate::specs::Frames::block))]
+pub(crate) fn fill_head(octets: &mut [u8])
+    requires room { 20 ≤ length octets.old }
+    requires fits { Fits (drop 20 octets.old) }
+    ensures { octets.new ≡ frame (drop 20 octets.old) }
+{
+    let (head, payload) = octets.split_at_mut(HEAD_LEN);
+    let (len, sum) = head.split_at_mut(4);
+    len.copy_from_slice(&(payload.len() as u32).to_be_bytes());
+    sum.copy_from_slice(&digest_of(payload));
+}
+
+/// A payload behind room for the head of its frame.
+pub(crate) fn behind_head(alloc: Global, payload: &[u8]) -> Result<Vec<u8>, AllocError>
+    requires { Fits payload.now }
+    ensures room { IfOk result (λ octets. 20 ≤ length octets.items) }
+    ensures payload { IfOk result (λ octets. drop 20 octets.items ≡ payload.now) }
+{
+    let mut octets = Vec::with_capacity(alloc, HEAD_LEN + payload.len())?;
+    leave_head(&mut octets)?;
+    octets.extend_from_slice(payload)?;
+    Ok(octets)
+}
+
+/// The frame of a payload.
 pub fn frame_of(alloc: Global, payload: &[u8]) -> Result<Vec<u8>, AllocError>
     requires { Fits payload.now }
     ensures { IfOk result (λ octets. octets.items ≡ frame payload.now) }
 {
-    let mut octets = Vec::with_capacity(alloc, payload.len() + HEAD_LEN)?;
-    octets.extend_from_slice(&(payload.len() as u32).to_be_bytes())?;
-    octets.extend_from_slice(&digest_of(payload))?;
-    octets.extend_from_slice(payload)?;
+    let mut octets = behind_head(alloc, payload)?;
+    fill_head(&mut octets);
     Ok(octets)
 }
 

@@ -35,11 +35,11 @@ mod ticks;
 
 pub use fault::{Damage, LogFault};
 pub use file::FileLog;
-pub use frame::{HEAD_LEN, frame_of};
+pub use frame::{HEAD_LEN, frame_of, leave_head};
 pub use log::{Crash, Ending, Log};
 pub use memory::{Life, MemoryLog};
 pub use pace::{Pace, Pacing};
 pub use paced_log::PacedLog;
 pub use reading::Frames;
-pub use recording::{mend, record, write};
+pub use recording::{mend, record, record_in_place, write};
 pub use ticks::Ticks;

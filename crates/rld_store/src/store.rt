@@ -1,4 +1,4 @@
-ghost use Rattle.std.specs.Prelude.{◌≡◌, ◌⊎◌, ◌+◌, ℕ, false, List, [], ◌∷◌, ◌++◌, length, Err, IsTrue, IsErrOf, IfErr, IfOk, OnErr, OnOk};
+ghost use Rattle.std.specs.Prelude.{◌≡◌, ◌⊎◌, ◌+◌, ◌≤◌, ℕ, false, List, [], ◌∷◌, ◌++◌, length, drop, Err, IsTrue, IsErrOf, IfErr, IfOk, OnErr, OnOk};
 ghost use Rattle.std.specs.List.{All};
 ghost use Rattle.std.specs.Option.{option_map};
 ghost use Rattle.rld_books.specs.Saved.{IsServerOf, links_in, rows_in};
@@ -27,7 +27,7 @@ use crate::opening::{Restored, restore};
 use crate::reading::Reading;
 use crate::recorded::Recorded;
 use rld_books::ServerBooks;
-use rld_log::{Frames, Log, LogFault, mend, record};
+use rld_log::{Frames, HEAD_LEN, Log, LogFault, leave_head, mend, record_in_place};
 use rld_spelling::{Counts, Header, SpellFault};
 use rsl_accounts::Config;
 use rsl_session::SavedLink;
@@ -55,6 +55,11 @@ pub struct Store<L: Log> {
     pub(crate) whole: usize,
     pub(crate) end: End,
     pub(crate) is_over: bool,
+
+    /// Where each batch is spelled and framed, kept from one batch to the next, which clears it. It
+    /// stays small: the server's batches have at most 64 moves (`rld_turn`'s `MAX_BATCH`), of a few
+    /// short names each.
+    pub(crate) buffer: Vec<u8>,
 }
 
 /// A store whose log was opened, and what was found in it.
@@ -162,6 +167,7 @@ impl<L: Log> Store<L> {
                 whole,
                 end: End::Settled,
                 is_over: false,
+                buffer: Vec::new(alloc),
             }),
             Err(fault) => Err(Refused { log, fault }),
         }
@@ -242,6 +248,7 @@ impl<L: Log> Store<L> {
                     whole,
                     end: End::Settled,
                     is_over: false,
+                    buffer: Vec::new(alloc),
                 };
                 Ok(Opened {
                     store,
@@ -264,6 +271,7 @@ impl<L: Log> Store<L> {
         ensures header { self.new.header ≡ self.old.header }
         ensures counts { self.new.counts ≡ self.old.counts }
         ensures whole { self.new.whole ≡ self.old.whole }
+        ensures buffer { self.new.buffer.items ≡ self.old.buffer.items }
         ensures settled { OnOk result (self.new.end ≡ settled) }
         ensures over { self.old.is_over ≡ false → self.new.is_over ≡ is_unsynced result }
         ensures fitting { IsErrOf result StoreFault.Unfit → ⊥ }
@@ -284,10 +292,12 @@ impl<L: Log> Store<L> {
         }
     }
 
-    /// Records a payload at the end of a settled log, whose frames then have this length.
-    fn add(&mut self, alloc: Global, payload: &[u8], whole: usize) -> Result<(), StoreFault>
+    /// Records the payload in the buffer, which stands behind room for the head of its frame, at the
+    /// end of a settled log, whose frames then have this length.
+    fn add(&mut self, whole: usize) -> Result<(), StoreFault>
         requires end { self.old.end ≡ settled }
-        requires fits { Fits payload.now }
+        requires room { 20 ≤ length self.old.buffer.items }
+        requires fits { Fits (drop 20 self.old.buffer.items) }
         ensures told { IsTrue (L.tells self.new.log) → IsTrue (L.tells self.old.log) }
         ensures books { self.new.books ≡ self.old.books }
         ensures header { self.new.header ≡ self.old.header }
@@ -300,13 +310,15 @@ impl<L: Log> Store<L> {
         ensures fitting { IsErrOf result StoreFault.Unfit → ⊥ }
         ensures added { IsTrue (L.tells self.new.log) → (before : List (List ℕ)) →
             IsSettled (L.seen self.old.log) (L.may_leave self.old.log) before → OnOk result
-            (EndsSo settled L.tears (L.seen self.new.log) (L.may_leave self.new.log) (before ++ payload.now ∷ []) payload.now) }
+            (EndsSo settled L.tears (L.seen self.new.log) (L.may_leave self.new.log)
+            (before ++ drop 20 self.old.buffer.items ∷ []) (drop 20 self.old.buffer.items)) }
         ensures left { IsTrue (L.tells self.new.log) → (before : List (List ℕ)) →
             IsSettled (L.seen self.old.log) (L.may_leave self.old.log) before → OnErr result
-            (EndsSo unsettled L.tears (L.seen self.new.log) (L.may_leave self.new.log) before payload.now) }
+            (EndsSo unsettled L.tears (L.seen self.new.log) (L.may_leave self.new.log)
+            before (drop 20 self.old.buffer.items)) }
     {
         self.end = End::Unsettled;
-        match record(alloc, &mut self.log, payload) {
+        match record_in_place(&mut self.log, &mut self.buffer) {
             Ok(()) => {
                 self.end = End::Settled;
                 self.whole = whole;
@@ -316,35 +328,9 @@ impl<L: Log> Store<L> {
         }
     }
 
-    /// The payload of a batch that can be made and written, and the length of the log's frames with
-    /// it.
-    fn payload_of(&self, alloc: Global, batch: &[Move]) -> Result<(Vec<u8>, usize), StoreFault>
-        ensures taken { OnOk result (AreTakenIn self.now.books batch.now) }
-        ensures fit { OnOk result ((moves_field self.now.counts).Fits batch.now) }
-        ensures spelled { IfOk result (λ found. found.0.items ≡ (moves_field self.now.counts).spell batch.now) }
-        ensures short { IfOk result (λ found. Fits found.0.items) }
-        ensures whole { IfOk result (λ found. found.1 ≡ self.now.whole + (20 + length found.0.items)) }
-        ensures unlogged { is_unsynced result ≡ false }
-        ensures unfit { IsErrOf result StoreFault.Unfit →
-            (AreTakenIn self.now.books batch.now → All (MoveFits self.now.counts) batch.now → ⊥) }
-    {
-        if !self.books.takes_all(batch) {
-            return Err(StoreFault::Unfit);
-        }
-        let mut payload = Vec::new(alloc);
-        match self.counts.push_moves(&mut payload, batch) {
-            Ok(()) => {}
-            Err(SpellFault::NoMemory) => return Err(StoreFault::NoMemory),
-            Err(SpellFault::Unfit) => return Err(StoreFault::Unfit),
-        }
-        let Some(whole) = whole_with(self.whole, payload.len()) else {
-            return Err(StoreFault::TooLong);
-        };
-        Ok((payload, whole))
-    }
-
-    /// Records a batch of moves, and then makes them. All memory is allocated first; the batch is
-    /// one frame, which is synced before a move is made.
+    /// Records a batch of moves, and then makes them. All memory is allocated first: room for the
+    /// decisions, and what the frame of the batch needs beyond the longest before it. That frame is
+    /// synced before a move is made.
     ///
     /// A batch with a move of no account, or that cannot be written, is `Unfit`. After a fault the
     /// books are as they were, and nothing may be answered: a crash leaves the batch whole or not
@@ -390,9 +376,15 @@ impl<L: Log> Store<L> {
             self.new.whole self.new.books history batch.items) }
     {
         let decisions = Vec::with_capacity(alloc, batch.len())?;
-        let (payload, whole) = self.payload_of(alloc, &batch)?;
+        let whole = spell_batch(
+            &mut self.buffer,
+            &self.books,
+            self.counts,
+            self.whole,
+            &batch,
+        )?;
         self.settle()?;
-        self.add(alloc, &payload, whole)?;
+        self.add(whole)?;
         let basis = Basis::of(&batch, &self.books);
         let decisions = self.books.make_all(batch, decisions);
         Ok(Recorded::new(basis, decisions, self.header.era))
@@ -494,6 +486,40 @@ impl<L: Log> Store<L> {
     {
         let Store { log, .. } = self;
         log
+    }
+}
+
+/// Spells a batch that these books can make and that can be written, behind room for the head of its
+/// frame. Gives the length that the whole frames of a log have with it.
+fn spell_batch(
+    buffer: &mut Vec<u8>,
+    books: &ServerBooks,
+    counts: Counts,
+    whole: usize,
+    batch: &[Move],
+) -> Result<usize, StoreFault>
+    ensures taken { OnOk result (AreTakenIn books.now batch.now) }
+    ensures fit { OnOk result ((moves_field counts).Fits batch.now) }
+    ensures room { OnOk result (20 ≤ length buffer.new.items) }
+    ensures spelled { OnOk result (drop 20 buffer.new.items ≡ (moves_field counts).spell batch.now) }
+    ensures short { OnOk result (Fits (drop 20 buffer.new.items)) }
+    ensures whole { IfOk result (λ len. len ≡ whole + (20 + length (drop 20 buffer.new.items))) }
+    ensures unlogged { is_unsynced result ≡ false }
+    ensures unfit { IsErrOf result StoreFault.Unfit →
+        (AreTakenIn books.now batch.now → All (MoveFits counts) batch.now → ⊥) }
+{
+    if !books.takes_all(batch) {
+        return Err(StoreFault::Unfit);
+    }
+    leave_head(buffer)?;
+    match counts.push_moves(buffer, batch) {
+        Ok(()) => {}
+        Err(SpellFault::NoMemory) => return Err(StoreFault::NoMemory),
+        Err(SpellFault::Unfit) => return Err(StoreFault::Unfit),
+    }
+    match whole_with(whole, buffer.len() - HEAD_LEN) {
+        Some(whole) => Ok(whole),
+        None => Err(StoreFault::TooLong),
     }
 }
 

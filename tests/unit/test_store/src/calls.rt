@@ -29,6 +29,32 @@ fn a_generation_has_these_octets(rt: HostRuntime) -> Result<(), Fail> {
     Ok(())
 }
 
+/// The frames of a header, of a snapshot of two new books, of the ticks at 1, 2 and 3, and of that at
+/// 4, with the digests that `md5sum` prints.
+const TWO_BATCHES: &str = "
+00000015 6f285a3faba7555c77ac6023436ae692 02 01 01 01 00*16 00
+0000000d 9a0f7a47ff16017b2519beda93a25b2d 02 00*12
+00000007 d045ae9e036c1fdbc0d3e23aa93a12f1 03 05 01 05 02 05 03
+00000003 361e265bca93633a1fbafde0d2d42b72 01 05 04
+";
+
+/// Nothing of a batch is left in the frame of a shorter one after it.
+#[test]
+fn a_shorter_batch_follows_a_longer_one(rt: HostRuntime) -> Result<(), Fail> {
+    let alloc = rt.alloc();
+    let wanted = octets_of(alloc, TWO_BATCHES)?;
+    let mut store = begun(alloc, &[])?;
+    let longer = vec![in alloc; tick(1), tick(2), tick(3)]?;
+    commit(&rt, &mut store, longer, &[Decision::Done; 3])?;
+    commit_one(&rt, &mut store, tick(4), Decision::Done)?;
+    let log = store.into_log();
+    assert_eq!(rt; log.octets(), wanted.as_slice());
+    let opened = found(alloc, log.octets())?;
+    assert_eq!(rt; opened.moves, 4);
+    assert_eq!(rt; opened.torn, 0);
+    Ok(())
+}
+
 /// An account has one place: the first login takes it, and the second finds none.
 #[test]
 fn a_batch_is_decided_move_by_move(rt: HostRuntime) -> Result<(), Fail> {

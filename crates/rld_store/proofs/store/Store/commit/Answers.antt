@@ -1,4 +1,4 @@
-use Rattle.std.proofs.Common.{◌≡◌, ◌+◌, ℕ, List, ◌∙◌, length, sym, ap, subst}
+use Rattle.std.proofs.Common.{◌≡◌, ◌+◌, ℕ, List, ◌∙◌, drop, length, sym, ap, subst}
 use Rattle.rsl_shard.specs.Restep.{BooksSeen}
 use Rattle.rsl_shard.specs.declared.moved.Move.{Move}
 use Rattle.rld_books.specs.Server.{replay}
@@ -14,14 +14,15 @@ pub returns-clause-recorded : goal.returns-clause-recorded
 returns-clause-recorded g c = λ told config opening history unanswered so.
     let batch : List Move = c.args.batch.items in
     let counts : Counts = c.args.self.now.counts in
-    let payload : List ℕ = c.deref-2.result.now in
+    let payload : List ℕ = drop 20 c.settle.new.self.buffer.items in
     let given : c.deref.result.now ≡ batch = c.deref.ensures.value in
-    let spelled : payload ≡ (moves_field counts).spell batch = c.deref-2.ensures.value ∙ c.in_ok-payload.ensures.spelled ∙ ap (λ (l : List Move). (moves_field counts).spell l) given in
-    let fit : (moves_field counts).Fits batch = subst (λ (l : List Move). (moves_field counts).Fits l) given c.in_ok-payload.ensures.fit in
+    let kept : payload ≡ drop 20 c.spell_batch.new.buffer.items = ap (λ (l : List ℕ). drop 20 l) c.settle.ensures.buffer in
+    let spelled : payload ≡ (moves_field counts).spell batch = kept ∙ c.in_ok-whole.ensures.spelled ∙ ap (λ (l : List Move). (moves_field counts).spell l) given in
+    let fit : (moves_field counts).Fits batch = subst (λ (l : List Move). (moves_field counts).Fits l) given c.in_ok-whole.ensures.fit in
     let told_settle = c.add.ensures.told told in
-    let short : Fits payload = subst (λ (p : List ℕ). Fits p) (sym c.deref-2.ensures.value) c.in_ok-payload.ensures.short in
+    let short : Fits payload = subst (λ (p : List ℕ). Fits p) (sym kept) c.in_ok-whole.ensures.short in
     let size_is : c.add.new.self.whole ≡ c.args.self.now.whole + (20 + length payload) =
-    c.in_ok-add.ensures.whole ∙ c.in_ok-payload.ensures.whole ∙ ap (λ (p : List ℕ). c.args.self.now.whole + (20 + length p)) (sym c.deref-2.ensures.value) in
+    c.in_ok-add.ensures.whole ∙ c.in_ok-whole.ensures.whole ∙ ap (λ (p : List ℕ). c.args.self.now.whole + (20 + length p)) (sym kept) in
     stands_more config opening g.L.Log.tears counts c.add.new.self.counts c.args.self.now.end
     (g.L.Log.seen c.args.self.now.log) (g.L.Log.seen c.add.new.self.log) (g.L.Log.may_leave c.args.self.now.log) (g.L.Log.may_leave c.add.new.self.log)
     c.args.self.now.whole c.add.new.self.whole c.args.self.now.books c.make_all-decisions.new.self history unanswered batch payload so

@@ -1,9 +1,18 @@
-use Rattle.std.proofs.Common.{◌⊎◌, [], subst}
+use Rattle.std.proofs.Common.{◌⊎◌, [], IsTrue, subst, sym}
 use Rattle.rld_spelling.specs.declared.moves.Counts.{Counts}
+use Rattle.rld_store.specs.Beginning.{IsBegun}
 use Rattle.rld_store.specs.Generations.{HasGeneration, IsUnbegun}
-use Rattle.rld_store.proofs.Fronts.{begun_of, both_stand}
+use Rattle.rld_store.proofs.Fronts.{begun_of, begun_stands, both_stand}
 use Rattle.rld_store.proofs.Standing.{crashes_lose}
 use Rattle.rld_store.proofs.store.Store.roll.Goals as goal
+
+pub returns-in-Ok-clause-stands : goal.returns-in-Ok-clause-stands
+returns-in-Ok-clause-stands g c = λ told only config opening history unanswered so.
+    let is = c.replace.ensures.after in
+    begun_stands config opening c.args.self.now.counts g.L.Log.tears c.args.header (g.L.Log.seen c.replace.new.dest) (g.L.Log.may_leave c.replace.new.dest) c.in-Ok.whole c.args.self.now.books history
+    so.are.opening_is so.counts_are
+    (subst (λ log. IsBegun c.args.self.now.counts c.args.header c.args.self.now.books (g.L.Log.seen log) (g.L.Log.may_leave log) c.in-Ok.whole) (sym is)
+    (c.in-Ok.ensures.begun (subst (λ log. IsTrue (g.L.Log.tells log)) is told) only)) so.replayed
 
 pub returns-in-Err-clause-crash : goal.returns-in-Err-clause-crash
 returns-in-Err-clause-crash g c = λ told told_older only empty config opening history unanswered so ending premise older newer reached_older reached_newer.
