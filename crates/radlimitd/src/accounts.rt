@@ -23,6 +23,8 @@ pub(crate) struct ServerAccounts<'a> {
 }
 
 impl Accounts for ServerAccounts<'_> {
+    ghost networks = { λ accounts. accounts.server.now.networks.items };
+
     fn read(&self, alloc: Global) -> Result<Config, AccountsFault> {
         match accounts_for(
             self.files,

@@ -3,7 +3,7 @@
 ghost use Rattle.std.specs.Prelude.{◌≡◌, IfNone, IfOk, IfSome, None};
 
 use rld_ask::Asks;
-use rld_commands::{Fault, cause_of, token_in};
+use rld_commands::{Fault, TokenFile, cause_of, token_in};
 use rld_config::{AskSettings, ServerFile};
 use rsl_event::Source;
 use rsl_port::socket_addr;
@@ -34,7 +34,7 @@ where
         client,
         ..
     } = ask;
-    let token = token_in(rt, alloc, path)?;
+    let TokenFile { token, .. } = token_in(rt, alloc, path)?;
     match Asks::bind(rt, alloc, token, *client, *address, *port) {
         Ok(asks) => Ok(Some(asks)),
         Err(error) => {

@@ -1,4 +1,5 @@
 pub mod Folder
 pub mod Outcome
 pub mod Status
+pub mod Token
 pub mod Words

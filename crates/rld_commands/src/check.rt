@@ -22,7 +22,7 @@ pub(crate) fn check<F: Files, W: Write>(
     let paths = Paths::of(alloc, name, &server)?;
     let accounts = accounts_for(files, alloc, names, name, &server, paths.accounts.as_str())?;
     if let Some(path) = &paths.token {
-        let _token = token_in(files, alloc, path.as_str())?;
+        let _file = token_in(files, alloc, path.as_str())?;
     }
     tell(alloc, &accounts, server.networks.as_slice(), writer)
 }

@@ -3,6 +3,10 @@
 //! No clause speaks of what the system's files give; `ServerFile::read` and `read_config` read
 //! their texts.
 
+ghost use Rattle.std.specs.Prelude.{◌≡◌, IfNone, IfOk, None};
+ghost use Rattle.rld_config.specs.Server as server_file;
+ghost use Rattle.rld_config.specs.Trust.{exposure_of};
+
 use crate::cause::{cause_in, cause_of};
 use crate::fault::Fault;
 use crate::folder::check_folder;
@@ -59,10 +63,11 @@ pub(crate) fn state_of<F: Files>(files: &F, alloc: Global, name: &str) -> Result
     Ok(state)
 }
 
-/// The account file of this path, whose attributes have the names of a dictionary, if it fits the server's file, which has this name: it has the
-/// client of each network, which has to sign under a guard; no network takes the address of another
-/// client; no other user may write to it, nor read it unless the server's file allows that; and no other user may
-/// write to the folders of both files.
+/// The account file of this path, whose attributes have the names of a dictionary, if it fits the server's
+/// file, which has this name: it has the client of each network, which has to sign under a guard; no network
+/// takes the address of another client; the client of asks is there, and trusted; no other user may write to
+/// it, nor read it unless the server's file allows that; and no other user may write to the folders of both
+/// files.
 pub fn accounts_for<F: Files>(
     files: &F,
     alloc: Global,
@@ -70,7 +75,17 @@ pub fn accounts_for<F: Files>(
     name: &str,
     server: &ServerFile,
     path: &str,
-) -> Result<AccountFile, Fault> {
+) -> Result<AccountFile, Fault>
+    ensures known { IfOk result (λ accounts.
+        server_file.unknown_client server.now.networks.items accounts.config ≡ None) }
+    ensures signing { IfOk result (λ accounts.
+        server_file.unsigned_client server.now.networks.items accounts.config ≡ None) }
+    ensures apart { IfOk result (λ accounts.
+        server_file.shadowed_client server.now.networks.items accounts.config ≡ None) }
+    ensures asker { IfOk result (λ accounts.
+        server_file.asker_fault server.now.ask accounts.config ≡ None) }
+    ensures closed { IfOk result (λ accounts. exposure_of server.now.trust accounts.mode ≡ None) }
+{
     let accounts = account_file(files, alloc, names, path)?;
     if let Some(fault) = misfit(server, &accounts.config) {
         let text = file_text(files, alloc, name)?;
@@ -103,7 +118,15 @@ pub fn unknown_group<F: Files, T>(
 /// The first fault of a server's file whose account file has this configuration: a network whose client it does
 /// not have, or whose client need not sign under a guard, or that takes the address of another client; or a wrong
 /// client of asks.
-fn misfit(server: &ServerFile, config: &Config) -> Option<ServerFault> {
+fn misfit(server: &ServerFile, config: &Config) -> Option<ServerFault>
+    ensures known { IfNone result
+        (server_file.unknown_client server.now.networks.items config.now ≡ None) }
+    ensures signing { IfNone result
+        (server_file.unsigned_client server.now.networks.items config.now ≡ None) }
+    ensures apart { IfNone result
+        (server_file.shadowed_client server.now.networks.items config.now ≡ None) }
+    ensures asker { IfNone result (server_file.asker_fault server.now.ask config.now ≡ None) }
+{
     let networks = server.networks.as_slice();
     if let Some(fault) = unknown_client(networks, config) {
         return Some(fault);

@@ -31,5 +31,5 @@ pub use cause::cause_of;
 pub use exit::exit_code;
 pub use fault::Fault;
 pub use files::{AccountFile, accounts_for, server_file, unknown_group};
-pub use token::token_in;
+pub use token::{TokenFile, token_in};
 pub use wrong::{BadFile, BadLog, Wrong};

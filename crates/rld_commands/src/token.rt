@@ -1,5 +1,8 @@
 //! The file with the token of asks.
 
+ghost use Rattle.std.specs.Prelude.{◌≡◌, true, IfOk};
+ghost use Rattle.rld_commands.specs.Token.{is_private};
+
 use crate::cause::cause_of;
 use crate::fault::Fault;
 use crate::files::{bad_file, file_text};
@@ -15,22 +18,42 @@ const OTHERS: u32 = 0o077;
 /// The fewest octets of a token, and the most.
 const TOKEN_LENS: (usize, usize) = (16, 256);
 
+/// A right file of a token.
+#[derive(Drop)]
+pub struct TokenFile {
+    /// The token.
+    pub token: Token,
+    /// The file's mode, as the system reports it.
+    pub mode: u32,
+}
+
 /// The token in the file of this path: its one line. The faults of the file come in this order: it cannot be
 /// read, others than its owner can read or write it, it is no token.
-pub fn token_in<F: Files>(files: &F, alloc: Global, path: &str) -> Result<Token, Fault> {
+pub fn token_in<F: Files>(files: &F, alloc: Global, path: &str) -> Result<TokenFile, Fault>
+    ensures { IfOk result (λ file. is_private file.mode ≡ true) }
+{
     let text = file_text(files, alloc, path)?;
-    match fs::metadata(files, path) {
-        Ok(found) if found.permissions().mode() & OTHERS == 0 => {}
-        Ok(_) => return bad_file(alloc, path, Wrong::Shared),
+    let mode = match fs::metadata(files, path) {
+        Ok(found) => found.permissions().mode(),
         Err(error) => return bad_file(alloc, path, Wrong::Unreadable(cause_of(error.kind()))),
+    };
+    if !is_private(mode) {
+        return bad_file(alloc, path, Wrong::Shared);
     }
     let line = text.as_slice();
     let token = line.strip_suffix(b"\n").unwrap_or(line);
-    if is_token(token) {
-        Ok(Token::new(alloc, token)?)
-    } else {
-        bad_file(alloc, path, Wrong::NoToken)
+    if !is_token(token) {
+        return bad_file(alloc, path, Wrong::NoToken);
     }
+    let token = Token::new(alloc, token)?;
+    Ok(TokenFile { token, mode })
+}
+
+/// Whether nobody but its owner can do something with a file of this mode.
+fn is_private(mode: u32) -> bool
+    ensures { result ≡ is_private mode }
+{
+    mode & OTHERS == 0
 }
 
 /// Whether these octets may be a token.

@@ -3,6 +3,7 @@ pub mod AskFault
 pub mod Asked
 pub mod Commands
 pub mod Disconnecting
+pub mod Fitting
 pub mod Following
 pub mod Hearing
 pub mod Look

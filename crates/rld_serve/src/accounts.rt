@@ -12,10 +12,19 @@ pub enum AccountsFault {
 }
 
 /// Reads the accounts of a running server again.
+///
+/// A contract sees the networks of the server's file.
 pub trait Accounts {
+    ghost use Rattle.std.specs.Prelude.{List, IfOk};
+    ghost use Rattle.rld_networks.specs.declared.network.Network.{Network as OneNetwork};
+    ghost use Rattle.rld_serve.specs.Fitting.{AreFit};
+
+    ghost networks: { Self → List OneNetwork };
+
     /// Reads the present accounts, clients and rules. `Wrong` comes if the account file is wrong or
     /// does not fit the server's file, and `NoMemory` if memory is refused.
-    fn read(&self, alloc: Global) -> Result<Config, AccountsFault>;
+    fn read(&self, alloc: Global) -> Result<Config, AccountsFault>
+        ensures { IfOk result (λ config. AreFit (networks self.now) config) };
 }
 
 impl From<AllocError> for AccountsFault {

@@ -7,6 +7,7 @@ ghost use Rattle.rld_edges.specs.declared.fault.RunFault.TheVariants.{Unsynced};
 ghost use Rattle.rld_start.specs.NextHeaders.{generation_named};
 ghost use Rattle.rld_state.specs.Headers.{IsHeaderOf};
 ghost use Rattle.rld_counts.specs.Fates.{gate_of};
+ghost use Rattle.rld_serve.specs.Fitting.{AreFit};
 
 use crate::accounts::Accounts;
 use crate::asking::Seat;
@@ -110,13 +111,13 @@ pub(crate) struct Server<'a, G, A, R> {
 ///
 /// The store's books are of these accounts, and it writes the generation of the plan's header, which
 /// has the digest of their table under the plan's boot number. `key` is the right to remove its log.
+/// The plan's networks are those of the file that `accounts` are read again by, and fit these accounts.
 ///
 /// `greeting` is written to standard error once all workers have started, and a last line where an operator
-/// has asked it to end. A line says when batches
-/// are no longer recorded, and when they are again; so it does if a generation cannot begin, or
-/// logs cannot be put away. Where the disk has no room, the oldest logs of the archive go, within a second, and a
-/// line says which. Each refused datagram has a line, up to 20 of a cause each second, and
-/// a line gives the number of the others.
+/// has asked it to end. A line says when batches are no longer recorded, and when they are again; so it does
+/// if a generation cannot begin, or logs cannot be put away. Where the disk has no room, the oldest logs of
+/// the archive go, within a second, and a line says which. Each refused datagram has a line, up to 20 of a
+/// cause each second, and a line gives the number of the others.
 ///
 /// `Threads` comes if a worker has not started within about five seconds, `Down` if a socket fails,
 /// `Unsynced` if the store can record nothing more, and `NoMemory` if memory is refused at the
@@ -153,6 +154,8 @@ where
     requires written { store.header ≡ plan.header }
     requires table { IsHeaderOf plan.boot config plan.header }
     requires kept { key.generation ≡ generation_named plan.header }
+    requires networks { A.networks accounts.now ≡ plan.networks.now }
+    requires fit { AreFit plan.networks.now config }
 {
     let mut jobs = sockets.jobs(alloc, control)?;
     if pages.is_some() {
