@@ -120,7 +120,6 @@ where
         folder,
         store,
         boot,
-        header,
         key,
         ..
     } = started;
@@ -139,7 +138,6 @@ where
         boot,
         start: now,
         pacing,
-        header,
         greeting: greeting.as_str(),
         sink,
     };

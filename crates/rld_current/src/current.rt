@@ -32,7 +32,7 @@ impl Current {
         requires { arc_value config ≡ arc_value state.now.config }
         ensures config { result.config ≡ config }
         ensures boot { result.boot ≡ state.now.boot }
-        ensures header { result.header ≡ state.now.header }
+        ensures header { result.header ≡ state.now.recorder.header }
     {
         Current {
             config,

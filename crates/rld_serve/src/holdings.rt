@@ -61,7 +61,7 @@ impl Holdings {
     ) -> Result<Holdings, NoMemory>
         ensures config { IfOk result (λ holdings.
             arc_value holdings.config ≡ arc_value state.now.config) }
-        ensures header { IfOk result (λ holdings. holdings.header ≡ state.now.header) }
+        ensures header { IfOk result (λ holdings. holdings.header ≡ state.now.recorder.header) }
         ensures moves { IfOk result (λ holdings. holdings.moves ≡ state.now.moves) }
         ensures rows { IfOk result (λ holdings.
             holdings.rows.items ≡ rows_in state.now.recorder.books) }

@@ -25,7 +25,6 @@ use rld_folder::LogKey;
 use rld_log::{FileLog, PacedLog, Pacing};
 use rld_look::{ArchiveLook, Build, History, Pages, Refusals, Sink};
 use rld_networks::Network;
-use rld_spelling::Header;
 use rld_start::Generations;
 use rld_state::{ServerState, Told, Trouble, news_of_clock, seconds_behind};
 use rld_store::Store;
@@ -60,8 +59,6 @@ pub struct Plan<'a> {
     pub start: u64,
     /// When its logs are synced to the disk, and the ticks that it makes.
     pub pacing: Pacing<'a>,
-    /// The header of the generation that its store writes, with no move yet.
-    pub header: Header,
     /// The text written to standard error once all workers have started.
     pub greeting: &'a str,
     /// The reader of standard error.
@@ -109,8 +106,8 @@ pub(crate) struct Server<'a, G, A, R> {
 /// On an operator's request the accounts are read again (`reload`), between the turns of all
 /// receivers. What comes meanwhile waits in the sockets' buffers.
 ///
-/// The store's books are of these accounts, and it writes the generation of the plan's header, which
-/// has the digest of their table under the plan's boot number. `key` is the right to remove its log.
+/// The store's books are of these accounts, and its header has the digest of their table under the plan's
+/// boot number; it has no move yet. `key` is the right to remove its log.
 /// The plan's networks are those of the file that `accounts` are read again by, and fit these accounts.
 ///
 /// `greeting` is written to standard error once all workers have started, and a last line where an operator
@@ -151,9 +148,8 @@ where
         + Wait
         + Sync,
     requires server { IsServerOf config store.books }
-    requires written { store.header ≡ plan.header }
-    requires table { IsHeaderOf plan.boot config plan.header }
-    requires kept { key.generation ≡ generation_named plan.header }
+    requires table { IsHeaderOf plan.boot config store.header }
+    requires kept { key.generation ≡ generation_named store.header }
     requires networks { A.networks accounts.now ≡ plan.networks.now }
     requires fit { AreFit plan.networks.now config }
 {
@@ -175,7 +171,7 @@ where
     } = rooms;
     let config = Arc::new(alloc, config)?;
     let held = Arc::try_clone(&config)?;
-    let state = ServerState::new(store, config, plan.boot, plan.header, key);
+    let state = ServerState::new(store, config, plan.boot, key);
     let current = Current::of(&state, held);
     let server = Server {
         rt,

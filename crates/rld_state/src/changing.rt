@@ -30,8 +30,6 @@ use std::sync::Arc;
 pub(crate) struct Opening<L: Log> {
     /// The books that it opens with, and the log of its first generation.
     pub(crate) store: Store<L>,
-    /// The header of that generation.
-    pub(crate) header: Header,
     /// Proof that the log is on the disk.
     pub(crate) synced: Synced,
     /// The change from the present era.
@@ -70,18 +68,18 @@ impl<L: Log + Drop> ServerState<L> {
         ensures given_up { self.old.has_ended ≡ true →
             (IsErrOf result NotBegun.Ended) × (self.new ≡ self.old) }
         ensures gone { IfErr result (IsGone (generation_named next.header)) }
-        ensures newer { OnOk result (self.old.header.era < self.new.header.era) }
+        ensures newer { OnOk result (self.old.recorder.header.era < self.new.recorder.header.era) }
         ensures config { OnOk result (self.new.config ≡ config) }
         ensures boot { OnOk result (self.new.boot ≡ boot) }
         ensures key { OnOk result (self.new.key ≡ next.key) }
-        ensures header { OnOk result (self.new.header ≡ next.header) }
+        ensures header { OnOk result (self.new.recorder.header ≡ next.header) }
         ensures moves { OnOk result (self.new.moves ≡ 0) }
         ensures server { OnOk result (IsServerOf (arc_value config) self.new.recorder.books) }
         ensures over { OnOk result (self.new.recorder.is_over ≡ false) }
         ensures admitted { OnOk result ((boot after : ℕ) →
             AreAdmitted (table_of boot (arc_value self.old.config)) self.old.recorder.books
             (table_of after (arc_value config)) self.new.recorder.books) }
-        ensures eras { IfOk result (λ entered. (entered.change.former ≡ self.old.header.era)
+        ensures eras { IfOk result (λ entered. (entered.change.former ≡ self.old.recorder.header.era)
             × (entered.change.era ≡ next.header.era)) }
         ensures sessions { IfOk result (λ entered.
             AreSessionsOf self.old.recorder.books entered.change.held
@@ -101,7 +99,6 @@ impl<L: Log + Drop> ServerState<L> {
         ensures same_config { OnErr result (self.new.config ≡ self.old.config) }
         ensures same_key { OnErr result (self.new.key ≡ self.old.key) }
         ensures same_boot { OnErr result (self.new.boot ≡ self.old.boot) }
-        ensures same_header { OnErr result (self.new.header ≡ self.old.header) }
         ensures same_moves { OnErr result (self.new.moves ≡ self.old.moves) }
     {
         if self.has_ended() {
@@ -138,17 +135,16 @@ impl<L: Log + Drop> ServerState<L> {
         log: L,
         blanks: BlankBooks,
     ) -> Result<Opening<L>, RollFault>
-        ensures newer { OnOk result (self.now.header.era < header.era) }
-        ensures header { IfOk result (λ opening. opening.header ≡ header) }
-        ensures written { IfOk result (λ opening. opening.store.header ≡ header) }
+        ensures newer { OnOk result (self.now.recorder.header.era < header.era) }
+        ensures header { IfOk result (λ opening. opening.store.header ≡ header) }
         ensures server { IfOk result (λ opening. IsServerOf config.now opening.store.books) }
         ensures over { IfOk result (λ opening. opening.store.is_over ≡ false) }
         ensures admitted { IfOk result (λ opening. (boot after : ℕ) →
             AreAdmitted (table_of boot (arc_value self.now.config)) self.now.recorder.books
             (table_of after config.now) opening.store.books) }
         ensures synced { IfOk result (λ opening.
-            opening.synced.generation ≡ generation_named opening.header) }
-        ensures eras { IfOk result (λ opening. (opening.change.former ≡ self.now.header.era)
+            opening.synced.generation ≡ generation_named header) }
+        ensures eras { IfOk result (λ opening. (opening.change.former ≡ self.now.recorder.header.era)
             × (opening.change.era ≡ header.era)) }
         ensures held { IfOk result (λ opening.
             AreSessionsOf self.now.recorder.books opening.change.held) }
@@ -170,7 +166,6 @@ impl<L: Log + Drop> ServerState<L> {
         let synced = generations.sync(alloc, Written::by(&store))?;
         Ok(Opening {
             store,
-            header,
             synced,
             change: EraChange {
                 former: former.era,

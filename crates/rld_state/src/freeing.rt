@@ -63,7 +63,7 @@ impl<L: Log + Drop> ServerState<L> {
         ensures books { IfOk result (λ freed.
             self.new.recorder.books ≡ books_after_it self.old.recorder.books freed) }
         ensures moves { IfOk result (λ freed. self.new.moves ≡ moves_after_it self.old.moves freed) }
-        ensures header { self.new.header ≡ self.old.header }
+        ensures header { self.new.recorder.header ≡ self.old.recorder.header }
         ensures config { self.new.config ≡ self.old.config }
         ensures not_held { IfOk result (StaysUnheld self.old self.new) }
         ensures noted { IfOk result (IsNoted
@@ -96,7 +96,7 @@ impl<L: Log + Drop> ServerState<L> {
         ensures books { IfOk result (λ freed.
             self.new.recorder.books ≡ books_after_it self.old.recorder.books freed) }
         ensures moves { IfOk result (λ freed. self.new.moves ≡ moves_after_it self.old.moves freed) }
-        ensures header { self.new.header ≡ self.old.header }
+        ensures header { self.new.recorder.header ≡ self.old.recorder.header }
         ensures config { self.new.config ≡ self.old.config }
         ensures not_held { IfOk result (StaysUnheld self.old self.new) }
         ensures noted { IfOk result (IsNoted
@@ -143,7 +143,7 @@ impl<L: Log + Drop> ServerState<L> {
         ensures books { IfOk result (λ freed.
             self.new.recorder.books ≡ books_after_it self.old.recorder.books freed) }
         ensures moves { IfOk result (λ freed. self.new.moves ≡ moves_after_it self.old.moves freed) }
-        ensures header { self.new.header ≡ self.old.header }
+        ensures header { self.new.recorder.header ≡ self.old.recorder.header }
         ensures config { self.new.config ≡ self.old.config }
         ensures noted { IfOk result (IsNoted
             (record { failed = self.old.has_failed; ended = self.old.has_ended })
@@ -173,7 +173,7 @@ impl<L: Log + Drop> ServerState<L> {
         ensures books { IfOk result (λ freed.
             self.new.recorder.books ≡ books_after_it self.old.recorder.books freed) }
         ensures moves { IfOk result (λ freed. self.new.moves ≡ moves_after_it self.old.moves freed) }
-        ensures header { self.new.header ≡ self.old.header }
+        ensures header { self.new.recorder.header ≡ self.old.recorder.header }
         ensures config { self.new.config ≡ self.old.config }
         ensures noted { IfOk result (IsNoted
             (record { failed = self.old.has_failed; ended = self.old.has_ended })

@@ -55,26 +55,24 @@ struct Unbegun {
 }
 
 /// What the lock of a server protects: its recorder, which is not called again once it can record
-/// nothing more; the accounts, clients and rules of its books; the header of the generation that it
-/// writes, and the number of its moves; and whether a batch was not recorded recently.
+/// nothing more; the accounts, clients and rules of its books; the number of moves of the generation
+/// that it writes; and whether a batch was not recorded recently.
 ///
-/// What each of its values keeps, whoever has the lock: its books are of these accounts, the header
-/// has the digest of their table under the boot number, the store writes the generation of the
-/// header, and the right to remove its log is kept: nothing else can remove it.
+/// What each of its values keeps, whoever has the lock: its books are of these accounts, the header of
+/// that generation has the digest of their table under the boot number, and the right to remove its log
+/// is kept: nothing else can remove it.
 #[derive(Drop)]
 pub struct ServerState<L: Log> {
     recorder: Store<L>,
     config: Arc<Config>,
     boot: u64,
-    header: Header,
     key: LogKey,
     moves: u64,
     has_ended: bool,
     has_failed: bool,
     ghost server: { IsServerOf (arc_value config) recorder.books },
-    ghost table: { IsHeaderOf boot (arc_value config) header },
-    ghost written: { recorder.header ≡ header },
-    ghost kept: { key.generation ≡ generation_named header },
+    ghost table: { IsHeaderOf boot (arc_value config) recorder.header },
+    ghost kept: { key.generation ≡ generation_named recorder.header },
 }
 
 impl<L: Log + Drop> ServerState<L> {
@@ -92,14 +90,14 @@ impl<L: Log + Drop> ServerState<L> {
         ensures batch { IfOk result (λ recorded. recorded.batch ≡ batch.items) }
         ensures decided { IfOk result AreDecided }
         ensures era { IfOk result (λ recorded. IsOfEra era recorded.era) }
-        ensures present { IfOk result (λ recorded. recorded.era ≡ self.old.header.era) }
+        ensures present { IfOk result (λ recorded. recorded.era ≡ self.old.recorder.header.era) }
         ensures given_up { self.old.has_ended ≡ true → (result ≡ Err over) × (self.new ≡ self.old) }
-        ensures other_era { (IsOfEra era self.old.header.era → ⊥) → self.old.has_ended ≡ false →
+        ensures other_era { (IsOfEra era self.old.recorder.header.era → ⊥) → self.old.has_ended ≡ false →
             (result ≡ Err failed) × (self.new.recorder ≡ self.old.recorder) }
         ensures ended { self.new.has_ended ≡ (self.old.has_ended || is_ended result) }
         ensures failed { self.new.has_failed ≡ (self.old.has_failed || is_failed result) }
         ensures moves { self.new.moves ≡ moves_after self.old.moves (length batch.items) result }
-        ensures header { self.new.header ≡ self.old.header }
+        ensures header { self.new.recorder.header ≡ self.old.recorder.header }
         ensures config { self.new.config ≡ self.old.config }
 
         ensures boot { self.new.boot ≡ self.old.boot }
@@ -140,7 +138,7 @@ impl<L: Log + Drop> ServerState<L> {
             drop(batch);
             return Err(RecordFault::Ended);
         }
-        if !is_of_era(era, self.header.era) {
+        if !is_of_era(era, self.header().era) {
             drop(batch);
             self.has_failed = true;
             return Err(RecordFault::Failed);
@@ -176,9 +174,9 @@ impl<L: Log + Drop> ServerState<L> {
 
     /// The header of the generation that the recorder writes.
     pub fn header(&self) -> Header
-        ensures { result ≡ self.now.header }
+        ensures { result ≡ self.now.recorder.header }
     {
-        self.header
+        self.recorder.header()
     }
 
     /// The accounts, clients and rules of its books. It fails only if their reference count is at
@@ -193,7 +191,7 @@ impl<L: Log + Drop> ServerState<L> {
     /// accounts.
     pub fn boot(&self) -> u64
         ensures boot { result ≡ self.now.boot }
-        ensures table { IsHeaderOf result (arc_value self.now.config) self.now.header }
+        ensures table { IsHeaderOf result (arc_value self.now.config) self.now.recorder.header }
     {
         self.boot
     }
@@ -221,7 +219,6 @@ impl<L: Log + Drop> ServerState<L> {
         ensures recorder { self.new.recorder ≡ self.old.recorder }
         ensures config { self.new.config ≡ self.old.config }
         ensures boot { self.new.boot ≡ self.old.boot }
-        ensures header { self.new.header ≡ self.old.header }
         ensures key { self.new.key ≡ self.old.key }
         ensures moves { self.new.moves ≡ self.old.moves }
         ensures failed { self.new.has_failed ≡ self.old.has_failed }
@@ -249,7 +246,6 @@ impl<L: Log + Drop> ServerState<L> {
         ensures recorder { self.new.recorder ≡ self.old.recorder }
         ensures config { self.new.config ≡ self.old.config }
         ensures boot { self.new.boot ≡ self.old.boot }
-        ensures header { self.new.header ≡ self.old.header }
         ensures key { self.new.key ≡ self.old.key }
         ensures moves { self.new.moves ≡ self.old.moves }
         ensures ended { self.new.has_ended ≡ self.old.has_ended }
@@ -264,21 +260,13 @@ impl<L: Log + Drop> ServerState<L> {
     /// The state of a server whose store has recorded nothing since it was made. Its books are of
     /// this configuration, and it writes the generation of this header, with no move yet, which has
     /// the digest of the table of these accounts under this boot number.
-    pub fn new(
-        store: Store<L>,
-        config: Arc<Config>,
-        boot: u64,
-        header: Header,
-        key: LogKey,
-    ) -> ServerState<L>
+    pub fn new(store: Store<L>, config: Arc<Config>, boot: u64, key: LogKey) -> ServerState<L>
         requires server { IsServerOf (arc_value config) store.books }
-        requires table { IsHeaderOf boot (arc_value config) header }
-        requires written { store.header ≡ header }
-        requires kept { key.generation ≡ generation_named header }
+        requires table { IsHeaderOf boot (arc_value config) store.header }
+        requires kept { key.generation ≡ generation_named store.header }
         ensures recorder { result.recorder ≡ store }
         ensures config { result.config ≡ config }
         ensures boot { result.boot ≡ boot }
-        ensures header { result.header ≡ header }
         ensures key { result.key ≡ key }
         ensures moves { result.moves ≡ 0 }
         ensures has_ended { result.has_ended ≡ false }
@@ -288,7 +276,6 @@ impl<L: Log + Drop> ServerState<L> {
             recorder: store,
             config,
             boot,
-            header,
             key,
             moves: 0,
             has_ended: false,
@@ -313,12 +300,12 @@ impl<L: Log + Drop> ServerState<L> {
         ensures given_up { self.old.has_ended ≡ true →
             (IsErrOf result NotBegun.Ended) × (self.new ≡ self.old) }
         ensures gone { IfErr result (IsGone next.key.generation) }
-        ensures newer { OnOk result (self.old.header.generation < self.new.header.generation) }
+        ensures newer { OnOk result
+            (self.old.recorder.header.generation < self.new.recorder.header.generation) }
         ensures key { OnOk result (self.new.key ≡ next.key) }
-        ensures header { OnOk result (self.new.header
-            ≡ header_after self.old.header next.key.generation.number self.old.moves) }
-        ensures written { OnOk result (self.new.recorder.header ≡ self.new.header) }
-        ensures era { OnOk result (next.key.generation.era ≡ self.old.header.era) }
+        ensures header { OnOk result (self.new.recorder.header
+            ≡ header_after self.old.recorder.header next.key.generation.number self.old.moves) }
+        ensures era { OnOk result (next.key.generation.era ≡ self.old.recorder.header.era) }
         ensures moves { OnOk result (self.new.moves ≡ 0) }
         ensures config { self.new.config ≡ self.old.config }
         ensures boot { self.new.boot ≡ self.old.boot }
@@ -338,7 +325,6 @@ impl<L: Log + Drop> ServerState<L> {
 
         // After a fault the present generation stays, with its log and its count.
         ensures same { OnErr result (self.new.recorder ≡ self.old.recorder) }
-        ensures same_header { OnErr result (self.new.header ≡ self.old.header) }
         ensures same_moves { OnErr result (self.new.moves ≡ self.old.moves) }
         ensures same_key { OnErr result (self.new.key ≡ self.old.key) }
     {
@@ -361,11 +347,11 @@ impl<L: Log + Drop> ServerState<L> {
     fn begin_in(&mut self, alloc: Global, key: LogKey, log: L) -> Result<L, Unbegun>
         ensures key { OnOk result (self.new.key ≡ key) }
         ensures unbegun { IfErr result (λ unbegun. unbegun.key ≡ key) }
-        ensures header { OnOk result (self.new.header
-            ≡ header_after self.old.header key.generation.number self.old.moves) }
-        ensures written { OnOk result (self.new.recorder.header ≡ self.new.header) }
-        ensures newer { OnOk result (self.old.header.generation < self.new.header.generation) }
-        ensures era { OnOk result (key.generation.era ≡ self.old.header.era) }
+        ensures header { OnOk result (self.new.recorder.header
+            ≡ header_after self.old.recorder.header key.generation.number self.old.moves) }
+        ensures newer { OnOk result
+            (self.old.recorder.header.generation < self.new.recorder.header.generation) }
+        ensures era { OnOk result (key.generation.era ≡ self.old.recorder.header.era) }
         ensures moves { OnOk result (self.new.moves ≡ 0) }
         ensures config { self.new.config ≡ self.old.config }
         ensures boot { self.new.boot ≡ self.old.boot }
@@ -373,7 +359,6 @@ impl<L: Log + Drop> ServerState<L> {
         ensures failed { self.new.has_failed ≡ self.old.has_failed }
         ensures going_on { IfErr result (λ unbegun. unbegun.fault ≡ RollFault.Ended → ⊥) }
         ensures same { OnErr result (self.new.recorder ≡ self.old.recorder) }
-        ensures same_header { OnErr result (self.new.header ≡ self.old.header) }
         ensures same_key { OnErr result (self.new.key ≡ self.old.key) }
         ensures same_moves { OnErr result (self.new.moves ≡ self.old.moves) }
         ensures older { IfOk result (λ older. older ≡ self.old.recorder.log) }
@@ -389,17 +374,17 @@ impl<L: Log + Drop> ServerState<L> {
             (L.may_leave self.new.recorder.log) self.new.recorder.whole self.new.recorder.books history []) }
     {
         let generation = key.generation();
-        if generation.era != self.header.era || generation.number <= self.header.generation {
+        let present = self.header();
+        if generation.era != present.era || generation.number <= present.generation {
             let fault = RollFault::Former;
             return Err(Unbegun { key, fault });
         }
-        let Some(header) = next_header(&self.header, generation.number, self.moves) else {
+        let Some(header) = next_header(&present, generation.number, self.moves) else {
             let fault = RollFault::Start(StartFault::NoNumber);
             return Err(Unbegun { key, fault });
         };
         match self.recorder.roll(alloc, header, log) {
             Ok(older) => {
-                self.header = header;
                 self.key = key;
                 self.moves = 0;
                 Ok(older)
@@ -418,10 +403,9 @@ impl<L: Log + Drop> ServerState<L> {
         ensures same { (boot : ℕ) → IsSome result ↔
             (table_of boot (arc_value self.old.config) ≡ table_of boot (arc_value config)) }
         ensures era { IfSome result (λ reloaded.
-            reloaded ≡ Reloaded.GoesOn (record { era = self.old.header.era })) }
+            reloaded ≡ Reloaded.GoesOn (record { era = self.old.recorder.header.era })) }
         ensures config { OnSome result (self.new.config ≡ config) }
         ensures recorder { self.new.recorder ≡ self.old.recorder }
-        ensures header { self.new.header ≡ self.old.header }
         ensures boot { self.new.boot ≡ self.old.boot }
         ensures key { self.new.key ≡ self.old.key }
         ensures moves { self.new.moves ≡ self.old.moves }
@@ -440,7 +424,7 @@ impl<L: Log + Drop> ServerState<L> {
     {
         let goes_on = is_same_era(&*self.config, &*config);
         if goes_on {
-            let era = self.header.era;
+            let era = self.header().era;
             self.config = config;
             Some(Reloaded::GoesOn(PresentEra { era }))
         } else {
@@ -457,25 +441,22 @@ impl<L: Log + Drop> ServerState<L> {
         config: Arc<Config>,
         boot: u64,
     ) -> Store<L>
-        requires synced { opening.synced.generation ≡ generation_named opening.header }
+        requires synced { opening.synced.generation ≡ generation_named opening.store.header }
         requires server { IsServerOf (arc_value config) opening.store.books }
-        requires table { IsHeaderOf boot (arc_value config) opening.header }
-        requires written { opening.store.header ≡ opening.header }
-        requires kept { key.generation ≡ generation_named opening.header }
+        requires table { IsHeaderOf boot (arc_value config) opening.store.header }
+        requires kept { key.generation ≡ generation_named opening.store.header }
         ensures recorder { self.new.recorder ≡ opening.store }
         ensures key { self.new.key ≡ key }
         ensures config { self.new.config ≡ config }
         ensures boot { self.new.boot ≡ boot }
-        ensures header { self.new.header ≡ opening.header }
         ensures moves { self.new.moves ≡ 0 }
         ensures ended { self.new.has_ended ≡ self.old.has_ended }
         ensures failed { self.new.has_failed ≡ self.old.has_failed }
         ensures former { result ≡ self.old.recorder }
     {
-        let Opening { store, header, .. } = opening;
+        let Opening { store, .. } = opening;
         self.config = config;
         self.boot = boot;
-        self.header = header;
         self.key = key;
         self.moves = 0;
         mem::replace(&mut self.recorder, store)

@@ -3,6 +3,9 @@ use Rattle.std.specs.Arc.{arc_value}
 use Rattle.rld_books.proofs.Callers.{replay_is_of}
 use Rattle.rld_books.specs.Saved.{IsServerOf}
 use Rattle.rsl_shard.specs.Restep.{BooksSeen}
+use Rattle.rld_spelling.specs.declared.header.Header.{Header}
+use Rattle.rld_start.specs.NextHeaders.{generation_named}
+use Rattle.rld_state.specs.Headers.{IsHeaderOf}
 use Rattle.rld_state.proofs.Batches.{count_decided, recorded_still}
 use Rattle.rld_state.proofs.state.ServerState.record.Goals as goal
 
@@ -11,9 +14,9 @@ pub invariant_of-self-in-Ok : goal.invariant_of-self-in-Ok
 invariant_of-self-in-Ok g c = record {
   server = subst (λ (books : List BooksSeen). IsServerOf (arc_value c.args.self.now.config) books) (sym c.in-Ok.ensures.books)
       (replay_is_of (arc_value c.args.self.now.config) c.args.self.now.recorder.books c.args.batch.items c.args.self.now.server);
-  table = c.args.self.now.table;
-  written = c.commit.ensures.header ∙ c.args.self.now.written;
-  kept = c.args.self.now.kept;
+  table = subst (λ (header : Header). IsHeaderOf c.args.self.now.boot (arc_value c.args.self.now.config) header)
+      (sym c.commit.ensures.header) c.args.self.now.table;
+  kept = c.args.self.now.kept ∙ ap generation_named (sym c.commit.ensures.header);
 }
 
 pub returns-in-Ok-clause-count : goal.returns-in-Ok-clause-count
