@@ -187,7 +187,10 @@ where
 {
     let entries = match fs::read_dir(rt, folder) {
         Ok(entries) => entries,
-        Err(error) => return bad_file(alloc, folder, Wrong::Unreadable(cause_of(error.kind()))),
+        Err(error) => {
+            let wrong = Wrong::Unreadable(cause_of(error.kind()));
+            return Err(bad_file(alloc, folder, wrong));
+        }
     };
     for entry in entries {
         match entry {
@@ -199,7 +202,8 @@ where
             // A name that is not UTF-8 is not one of the server's.
             Err(error) if error.kind() == ErrorKind::InvalidFilename => {}
             Err(error) => {
-                return bad_file(alloc, folder, Wrong::Unreadable(cause_of(error.kind())));
+                let wrong = Wrong::Unreadable(cause_of(error.kind()));
+                return Err(bad_file(alloc, folder, wrong));
             }
         }
     }

@@ -46,7 +46,7 @@ pub fn server_file<F: Files>(files: &F, alloc: Global, name: &str) -> Result<Ser
         Err(ServerFault::NoMemory) => Err(Fault::NoMemory),
         Err(fault) => {
             let faults = server_faults(alloc, text.as_slice(), &fault)?;
-            bad_file(alloc, name, Wrong::Faults(faults))
+            Err(bad_file(alloc, name, Wrong::Faults(faults)))
         }
     }
 }
@@ -90,11 +90,11 @@ pub fn accounts_for<F: Files>(
     if let Some(fault) = misfit(server, &accounts.config) {
         let text = file_text(files, alloc, name)?;
         let faults = misfits(alloc, text.as_slice(), server, &accounts.config, &fault)?;
-        return bad_file(alloc, name, Wrong::Faults(faults));
+        return Err(bad_file(alloc, name, Wrong::Faults(faults)));
     }
     match server.trust.exposure(accounts.mode) {
-        Some(Exposure::Writable) => return bad_file(alloc, path, Wrong::Writable),
-        Some(Exposure::Readable) => return bad_file(alloc, path, Wrong::Readable),
+        Some(Exposure::Writable) => return Err(bad_file(alloc, path, Wrong::Writable)),
+        Some(Exposure::Readable) => return Err(bad_file(alloc, path, Wrong::Readable)),
         None => {}
     }
     check_folder(files, alloc, name)?;
@@ -112,7 +112,7 @@ pub fn unknown_group<F: Files, T>(
     let text = file_text(files, alloc, name)?;
     let wrong = format!(in alloc; "is {group:?}; the system has no group of this name")?;
     let faults = fault_of_key(alloc, text.as_slice(), "control", "group", wrong.as_str())?;
-    bad_file(alloc, name, Wrong::Faults(faults))
+    Err(bad_file(alloc, name, Wrong::Faults(faults)))
 }
 
 /// The first fault of a server's file whose account file has this configuration: a network whose client it does
@@ -153,7 +153,7 @@ pub fn account_file<F: Files>(
         Err(ConfigFault::NoMemory) => return Err(Fault::NoMemory),
         Err(fault) => {
             let faults = account_faults(alloc, names, text.as_slice(), &fault)?;
-            return bad_file(alloc, name, Wrong::Faults(faults));
+            return Err(bad_file(alloc, name, Wrong::Faults(faults)));
         }
     };
     match fs::metadata(files, name) {
@@ -162,7 +162,7 @@ pub fn account_file<F: Files>(
             mode: found.permissions().mode(),
             text,
         }),
-        Err(error) => bad_file(alloc, name, Wrong::Unreadable(cause_of(error.kind()))),
+        Err(error) => Err(bad_file(alloc, name, Wrong::Unreadable(cause_of(error.kind())))),
     }
 }
 
@@ -170,21 +170,21 @@ pub fn account_file<F: Files>(
 pub(crate) fn file_text<F: Files>(files: &F, alloc: Global, name: &str) -> Result<Vec<u8>, Fault> {
     match read_file(files, alloc, name, MAX_FILE_LEN) {
         Ok(text) => Ok(text),
-        Err(TextFault::Unreadable) => unreadable(files, alloc, name),
-        Err(TextFault::TooLong) => bad_file(alloc, name, Wrong::TooLong),
+        Err(TextFault::Unreadable) => Err(unreadable(files, alloc, name)),
+        Err(TextFault::TooLong) => Err(bad_file(alloc, name, Wrong::TooLong)),
         Err(TextFault::NoMemory) => Err(Fault::NoMemory),
     }
 }
 
 /// The fault of a file that cannot be read, with its cause.
-pub(crate) fn unreadable<F: Files, T>(files: &F, alloc: Global, name: &str) -> Result<T, Fault> {
+pub(crate) fn unreadable<F: Files>(files: &F, alloc: Global, name: &str) -> Fault {
     bad_file(alloc, name, Wrong::Unreadable(cause_in(files, name)))
 }
 
-/// The fault of a wrong file.
-pub(crate) fn bad_file<T>(alloc: Global, name: &str, wrong: Wrong) -> Result<T, Fault> {
+/// The fault of a wrong file; that of memory, if its name finds none.
+pub(crate) fn bad_file(alloc: Global, name: &str, wrong: Wrong) -> Fault {
     match String::from_str(alloc, name) {
-        Ok(name) => Err(Fault::BadFile(BadFile { name, wrong })),
-        Err(_) => Err(Fault::NoMemory),
+        Ok(name) => Fault::BadFile(BadFile { name, wrong }),
+        Err(_) => Fault::NoMemory,
     }
 }

@@ -27,10 +27,10 @@ pub(crate) fn check_folder<F: Files>(files: &F, alloc: Global, name: &str) -> Re
     let folder = folder_of(name);
     match fs::metadata(files, folder) {
         Ok(found) if is_open(found.permissions().mode(), found.uid(), found.gid()) => {
-            bad_file(alloc, folder, Wrong::OpenFolder)
+            Err(bad_file(alloc, folder, Wrong::OpenFolder))
         }
         Ok(_) => Ok(()),
-        Err(error) => bad_file(alloc, folder, Wrong::Unreadable(cause_of(error.kind()))),
+        Err(error) => Err(bad_file(alloc, folder, Wrong::Unreadable(cause_of(error.kind())))),
     }
 }
 

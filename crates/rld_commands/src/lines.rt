@@ -69,7 +69,7 @@ fn generation_of(alloc: Global, name: &str) -> Result<Generation, Fault> {
             return Ok(generation);
         }
     }
-    bad_file(alloc, name, Wrong::NoLog)
+    Err(bad_file(alloc, name, Wrong::NoLog))
 }
 
 /// The path of the era's file of a log: beside it, or in the folder above if it is there and not
@@ -93,8 +93,8 @@ pub(crate) fn octets_of<F: Files>(files: &F, alloc: Global, name: &str) -> Resul
     match read_file(files, alloc, name, u32::MAX) {
         Ok(octets) => Ok(octets),
         Err(TextFault::NoMemory) => Err(Fault::NoMemory),
-        Err(TextFault::TooLong) => bad_file(alloc, name, Wrong::TooLong),
-        Err(TextFault::Unreadable) => unreadable(files, alloc, name),
+        Err(TextFault::TooLong) => Err(bad_file(alloc, name, Wrong::TooLong)),
+        Err(TextFault::Unreadable) => Err(unreadable(files, alloc, name)),
     }
 }
 

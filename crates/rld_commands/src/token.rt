@@ -35,15 +35,18 @@ pub fn token_in<F: Files>(files: &F, alloc: Global, path: &str) -> Result<TokenF
     let text = file_text(files, alloc, path)?;
     let mode = match fs::metadata(files, path) {
         Ok(found) => found.permissions().mode(),
-        Err(error) => return bad_file(alloc, path, Wrong::Unreadable(cause_of(error.kind()))),
+        Err(error) => {
+            let wrong = Wrong::Unreadable(cause_of(error.kind()));
+            return Err(bad_file(alloc, path, wrong));
+        }
     };
     if !is_private(mode) {
-        return bad_file(alloc, path, Wrong::Shared);
+        return Err(bad_file(alloc, path, Wrong::Shared));
     }
     let line = text.as_slice();
     let token = line.strip_suffix(b"\n").unwrap_or(line);
     if !is_token(token) {
-        return bad_file(alloc, path, Wrong::NoToken);
+        return Err(bad_file(alloc, path, Wrong::NoToken));
     }
     let token = Token::new(alloc, token)?;
     Ok(TokenFile { token, mode })

@@ -45,6 +45,5 @@ invariant_of-self g c =
     record {
       server = still_server 0 (arc_value c.args.self.now.config) (arc_value c.args.config) (same 0) c.args.self.now.recorder.books c.args.self.now.server;
       table = c.args.self.now.table ∙ ap (λ (table : EraSeen). md5 (era_octets table)) (same c.args.self.now.boot);
-      written = c.args.self.now.written;
       kept = c.args.self.now.kept;
     }
