@@ -119,7 +119,6 @@ where
     let Started {
         folder,
         store,
-        boot,
         key,
         ..
     } = started;
@@ -135,7 +134,6 @@ where
         build,
         names,
         networks: server.networks.as_slice(),
-        boot,
         start: now,
         pacing,
         greeting: greeting.as_str(),

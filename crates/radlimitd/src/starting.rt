@@ -1,11 +1,8 @@
 //! A start on a disk that may have no room.
 
 ghost use Rattle.std.specs.Prelude.{◌≡◌, IfErr, IfOk};
-ghost use Rattle.md5.specs.Md5.{md5};
 ghost use Rattle.rld_books.specs.Saved.{IsServerOf};
-ghost use Rattle.rld_spelling.specs.Eras.{era_octets};
-ghost use Rattle.rld_spelling.specs.Tables.{table_of};
-ghost use Rattle.rld_start.specs.NextHeaders.{generation_named};
+ghost use Rattle.rld_store.specs.Generations.{octets_of};
 
 use rld_config::NewHistory;
 use rld_folder::RoomMade;
@@ -39,11 +36,9 @@ pub(crate) fn start_in_room<'a, R: Files<File = File> + Alloc<A = Global> + Clon
     now: u64,
     pacing: Pacing<'a>,
 ) -> Result<Begun<'a>, StartFault>
-    ensures written { IfOk result (λ begun. begun.started.store.header ≡ begun.started.header) }
-    ensures key { IfOk result (λ begun. begun.started.key.generation ≡ generation_named begun.started.header) }
+    ensures key { IfOk result (λ begun. begun.started.key.generation ≡ begun.started.store.header.generation) }
     ensures server { IfOk result (λ begun. IsServerOf config.now begun.started.store.books) }
-    ensures table { IfOk result (λ begun.
-        begun.started.header.digest ≡ md5 (era_octets (table_of begun.started.boot config.now))) }
+    ensures table { IfOk result (λ begun. begun.started.store.table.items ≡ octets_of config.now) }
 {
     let mut room = String::new(alloc);
     for _ in 0..MOST_ROOMS {

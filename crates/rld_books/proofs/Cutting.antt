@@ -4,14 +4,14 @@ use Rattle.std.specs.Prelude.{nat_lt, sum, sum_by}
 use Rattle.std.specs.List.{AllByRecursion}
 use Rattle.std.proofs.Math.ListN.{get_or-map}
 use Rattle.std.proofs.lemmas.Bool.{le-ltb, ltb-false}
-use Rattle.std.proofs.lemmas.List.{drop_all, length-map, map-append, map-set, take_all}
+use Rattle.std.proofs.lemmas.List.{drop_all, length-map, map-set, take_all}
 use Rattle.std.proofs.lemmas.List.Edits.{map_over_more}
 use Rattle.std.proofs.lemmas.List.Elements.{All-from_recursion, recursion_from_All}
 use Rattle.std.proofs.lemmas.List.Sums.{sum-map, sum_by_more}
 use Rattle.std.proofs.lemmas.Simd.{map-map}
 use Rattle.rsl_accounts.specs.Configuration.{Configuration}
 use Rattle.rsl_accounts.specs.declared.rules.Rules.{Rules}
-use Rattle.rsl_book.specs.Restored.{misfit, saved}
+use Rattle.rsl_book.specs.Restored.{misfit}
 use Rattle.rsl_book.specs.RuledBook.{RuledBook}
 use Rattle.rsl_session.specs.Saved.{saved_book, saved_link, saved_links}
 use Rattle.rsl_session.specs.declared.saved.SavedBook.{SavedBook}
@@ -21,10 +21,9 @@ use Rattle.rsl_session.specs.declared.bundle.Bundle.{Bundle}
 use Rattle.rsl_session.specs.declared.kept.KeptAsk.{KeptAsk}
 use Rattle.rsl_session.specs.declared.kept.KeptStop.{KeptStop}
 use Rattle.rsl_shard.specs.Opening.{as_new}
-use Rattle.rsl_shard.specs.Restep.{BooksSeen}
-use Rattle.rld_books.specs.Cut.{cut_ask, cut_book, cut_link, cut_ruled, cut_server, cut_shard, cut_stop, earlier, late, late_in}
+use Rattle.rld_books.specs.Cut.{cut_ask, cut_book, cut_link, cut_server, cut_stop, earlier, late, late_in}
 use Rattle.rld_books.specs.CutLaws.{BooksUpToStay, CutBooksAreUpTo, CutBooksFit}
-use Rattle.rld_books.specs.Saved.{IsServerOf, saved_server, seen_as_new}
+use Rattle.rld_books.specs.Saved.{IsServerOf, saved_server}
 use Rattle.rld_books.proofs.Saving.{one_server}
 
 -- ---- one moment
@@ -115,34 +114,20 @@ cut_fits = record { bundles = bundles_stay; misfit = fits_still }
 
 -- ---- the books of a server
 
-same_saved : (now : ℕ) (books : List RuledBook) → map saved (map (cut_ruled now) books) ≡ map (cut_book now) (map saved books)
-same_saved now [] = refl
-same_saved now (ruled ∷ books) = ap (λ (l : List Book). cut_book now ruled.book ∷ l) (same_saved now books)
-
-pub saved_cut : (now : ℕ) (server : List BooksSeen) → saved_server (cut_server now server) ≡ map (cut_book now) (saved_server server)
+saved_cut : (now : ℕ) (server : List RuledBook) → saved_server (cut_server now server) ≡ map (cut_book now) (saved_server server)
 saved_cut now [] = refl
-saved_cut now (seen ∷ server) =
-    ap (λ (l : List Book). l ++ saved_server (cut_server now server)) (same_saved now seen.books)
-    ∙ ap (λ (l : List Book). map (cut_book now) (map saved seen.books) ++ l) (saved_cut now server)
-    ∙ sym (map-append (cut_book now) (map saved seen.books) (saved_server server))
+saved_cut now (ruled ∷ server) = ap (λ (l : List Book). cut_book now ruled.book ∷ l) (saved_cut now server)
 
-same_rules : (now : ℕ) (books : List RuledBook) → map as_new (map (cut_ruled now) books) ≡ map as_new books
+same_rules : (now : ℕ) (server : List RuledBook) → map as_new (cut_server now server) ≡ map as_new server
 same_rules now [] = refl
-same_rules now (ruled ∷ books) = ap (λ (l : List RuledBook). as_new ruled ∷ l) (same_rules now books)
-
-cut_as_new : (now : ℕ) (server : List BooksSeen) → map seen_as_new (cut_server now server) ≡ map seen_as_new server
-cut_as_new now [] = refl
-cut_as_new now (seen ∷ server) =
-    let rules : map as_new (map (cut_ruled now) seen.books) ≡ map as_new seen.books = same_rules now seen.books in
-    let one : seen_as_new (cut_shard now seen) ≡ seen_as_new seen = (λ i. record { setup = seen.setup; books = rules i }) in
-    ap (λ (s : BooksSeen). s ∷ map seen_as_new (cut_server now server)) one ∙ ap (λ (l : List BooksSeen). seen_as_new seen ∷ l) (cut_as_new now server)
+same_rules now (ruled ∷ server) = ap (λ (l : List RuledBook). as_new ruled ∷ l) (same_rules now server)
 
 -- books that were cut are of the configuration that they were of
-pub cut_is_of : (config : Configuration) (now : ℕ) (server : List BooksSeen) → IsServerOf config server → IsServerOf config (cut_server now server)
-cut_is_of config now server of = cut_as_new now server ∙ of
+pub cut_is_of : (config : Configuration) (now : ℕ) (server : List RuledBook) → IsServerOf config server → IsServerOf config (cut_server now server)
+cut_is_of config now server of = same_rules now server ∙ of
 
 -- books that were put back from what was cut are those that are cut
-pub put_back_cut : (config : Configuration) (now : ℕ) (server made : List BooksSeen) (kept cut : List SavedBook) → IsServerOf config server → IsServerOf config made
+pub put_back_cut : (config : Configuration) (now : ℕ) (server made : List RuledBook) (kept cut : List SavedBook) → IsServerOf config server → IsServerOf config made
     → map saved_book kept ≡ saved_server server → map saved_book cut ≡ map (cut_book now) (map saved_book kept) → saved_server made ≡ map saved_book cut → made ≡ cut_server now server
 put_back_cut config now server made kept cut of made_of saved_is cut_is back =
     one_server config made (cut_server now server) made_of (cut_is_of config now server of)

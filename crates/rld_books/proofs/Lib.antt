@@ -1,6 +1,7 @@
 pub mod Blanking
 pub mod Callers
 pub mod Cutting
+pub mod Dealing
 pub mod Making
 pub mod Numbered
 pub mod Saving
@@ -11,4 +12,3 @@ pub mod Fitting
 pub mod Numbering
 pub mod Places
 pub mod Placing
-pub mod Pushing

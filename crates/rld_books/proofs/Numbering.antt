@@ -1,4 +1,4 @@
--- The numbers that clients have in two eras.
+-- The numbers that clients have in two tables.
 use Rattle.std.proofs.Common.{◌≡◌, ℕ, zero, suc, ◌+◌, List, [], ◌∷◌, map, get_or, Bool, true, false, ◌||◌, Option, Some, None, refl, ap, sym, ◌∙◌, if◌then◌else◌}
 use Rattle.std.specs.Prelude.{not, slice_get}
 use Rattle.std.specs.List.{list_any, position, position_or_len}
@@ -10,10 +10,10 @@ use Rattle.std.proofs.lemmas.Option.{option_and_then_some, slice_get-get_or, sli
 use Rattle.std.proofs.lemmas.Slice.Eq.{bytes_eq-Decides}
 use Rattle.rsl_accounts.specs.Configuration.{Configuration, account_number, client_number, comes_twice, same_octets}
 use Rattle.rsl_accounts.specs.declared.client.Client.{Client}
-use Rattle.rld_spelling.specs.Eras.{EraSeen}
+use Rattle.rld_spelling.specs.TableSpelled.{TableSeen}
 use Rattle.rld_spelling.specs.Tables.{account_row, client_row, table_of}
-use Rattle.rld_spelling.specs.declared.era.EraAccount.{EraAccount}
-use Rattle.rld_spelling.specs.declared.era.EraClient.{EraClient}
+use Rattle.rld_spelling.specs.declared.table.TableAccount.{TableAccount}
+use Rattle.rld_spelling.specs.declared.table.TableClient.{TableClient}
 use Rattle.rld_books.specs.Admitted.{account_with, addresses_of, client_with, next_number}
 use Rattle.rld_books.specs.Laws.{ClientsKeepTheirAddress, IsSameClient}
 use Rattle.rld_books.specs.Numbers.{next_numbers, number_in}
@@ -74,11 +74,11 @@ one_place (y ∷ xs) (suc i) (suc j) x once here there =
 
 -- ---- the law
 
-found_client : (old new : EraSeen) (client number : ℕ) (was : EraClient) → slice_get old.clients client ≡ Some was → client_with new was.address ≡ Some number
+found_client : (old new : TableSeen) (client number : ℕ) (was : TableClient) → slice_get old.clients client ≡ Some was → client_with new was.address ≡ Some number
     → IsSameClient old new client number
 found_client old new client number was before found =
-    let is : EraClient = get_or new.clients number was in
-    let told = position-Some (λ (one : EraClient). same_octets was.address one.address) new.clients number was found in
+    let is : TableClient = get_or new.clients number was in
+    let told = position-Some (λ (one : TableClient). same_octets was.address one.address) new.clients number was found in
     record {
       was = was;
       is = is;
@@ -87,9 +87,9 @@ found_client old new client number was before found =
       address = (bytes_eq-Decides was.address is.address).0 told.1;
     }
 
-same_client : (old new : EraSeen) (client number : ℕ) → next_number old new client ≡ Some number → IsSameClient old new client number
+same_client : (old new : TableSeen) (client number : ℕ) → next_number old new client ≡ Some number → IsSameClient old new client number
 same_client old new client number is =
-    option_and_then_some (λ (row : EraClient). client_with new row.address) (slice_get old.clients client) number is
+    option_and_then_some (λ (row : TableClient). client_with new row.address) (slice_get old.clients client) number is
     (λ was before found. found_client old new client number was before found)
 
 same_is : {X : Type 0} (a b : X) → Some a ≡ Some b → a ≡ b
@@ -102,30 +102,30 @@ clients_keep = record {
       let a = same_client old new one number is in
       let b = same_client old new other number also in
       let equal : a.was.address ≡ b.was.address =
-      a.address ∙ ap (λ (row : EraClient). row.address) (same_is a.is b.is (sym a.there ∙ b.there)) ∙ sym b.address in
+      a.address ∙ ap (λ (row : TableClient). row.address) (same_is a.is b.is (sym a.there ∙ b.there)) ∙ sym b.address in
       one_place (addresses_of old) one other a.was.address once
-      (slice_get-map (λ (row : EraClient). row.address) old.clients one ∙ ap (option_map (λ (row : EraClient). row.address)) a.there_before)
-      (slice_get-map (λ (row : EraClient). row.address) old.clients other ∙ ap (option_map (λ (row : EraClient). row.address)) b.there_before ∙ ap Some (sym equal));
+      (slice_get-map (λ (row : TableClient). row.address) old.clients one ∙ ap (option_map (λ (row : TableClient). row.address)) a.there_before)
+      (slice_get-map (λ (row : TableClient). row.address) old.clients other ∙ ap (option_map (λ (row : TableClient). row.address)) b.there_before ∙ ap Some (sym equal));
 }
 
 -- ---- the numbers of configurations are those of their tables
 
-pub same_account : (boot : ℕ) (config : Configuration) (name : List ℕ) → account_with (table_of boot config) name ≡ account_number config name
-same_account boot config name = position-map (λ (account : EraAccount). same_octets name account.name) account_row config.accounts
+pub same_account : (config : Configuration) (name : List ℕ) → account_with (table_of config) name ≡ account_number config name
+same_account config name = position-map (λ (account : TableAccount). same_octets name account.name) account_row config.accounts
 
-same_address : (boot : ℕ) (config : Configuration) (address : List ℕ) → client_with (table_of boot config) address ≡ client_number config address
-same_address boot config address = position-map (λ (client : EraClient). same_octets address client.address) client_row config.clients
+same_address : (config : Configuration) (address : List ℕ) → client_with (table_of config) address ≡ client_number config address
+same_address config address = position-map (λ (client : TableClient). same_octets address client.address) client_row config.clients
 
-same_next : (boot next : ℕ) (old new : Configuration) (client : ℕ) → number_in (next_numbers old new) client ≡ next_number (table_of boot old) (table_of next new) client
-same_next boot next old new client =
+same_next : (old new : Configuration) (client : ℕ) → number_in (next_numbers old new) client ≡ next_number (table_of old) (table_of new) client
+same_next old new client =
     ap (option_and_then (λ (number : Option ℕ). number)) (slice_get-map (λ (one : Client). client_number new one.address) old.clients client)
     ∙ by (slice_get old.clients client)
-    ∙ ap (option_and_then (λ (row : EraClient). client_with (table_of next new) row.address)) (sym (slice_get-map client_row old.clients client))
+    ∙ ap (option_and_then (λ (row : TableClient). client_with (table_of new) row.address)) (sym (slice_get-map client_row old.clients client))
   where
     by : (o : Option Client) → option_and_then (λ (number : Option ℕ). number) (option_map (λ (one : Client). client_number new one.address) o)
-        ≡ option_and_then (λ (row : EraClient). client_with (table_of next new) row.address) (option_map client_row o)
+        ≡ option_and_then (λ (row : TableClient). client_with (table_of new) row.address) (option_map client_row o)
     by None = refl
-    by (Some one) = sym (same_address next new one.address)
+    by (Some one) = sym (same_address new one.address)
 
-pub same_numbers : (boot next : ℕ) (old new : Configuration) → number_in (next_numbers old new) ≡ next_number (table_of boot old) (table_of next new)
-same_numbers boot next old new = λ i client. same_next boot next old new client i
+pub same_numbers : (old new : Configuration) → number_in (next_numbers old new) ≡ next_number (table_of old) (table_of new)
+same_numbers old new = λ i client. same_next old new client i

@@ -1,139 +1,138 @@
 -- The books of a server as they are saved and put back.
-use Rattle.std.proofs.Common.{◌≡◌, ℕ, ◌+◌, ◌%◌, ◌<◌, ◌≤◌, Option, Some, List, [], ◌∷◌, ◌++◌, length, get_or, map, take, refl, sym, ap, ◌∙◌, arith, append-nil, append_assoc}
+use Rattle.std.proofs.Common.{◌≡◌, ℕ, ◌+◌, ◌<◌, ◌≤◌, Option, Some, None, Result, Ok, Err, List, [], ◌∷◌, ◌++◌, length, get_or, map, take, drop, refl, sym, ap, ◌∙◌, arith, append-nil, append_assoc}
 use Rattle.std.specs.Prelude.{slice_get}
-use Rattle.std.specs.List.{flat_map, range_with_len}
-use Rattle.std.specs.Option.{option_and_then, option_map}
-use Rattle.std.proofs.lemmas.List.{length-map, map-append, take_more}
-use Rattle.std.proofs.lemmas.List.Concat.{flat_map-append}
-use Rattle.std.proofs.lemmas.List.FromFn.{map-range_with_len_more}
-use Rattle.std.proofs.lemmas.Option.{slice_get-map, slice_get_read}
+use Rattle.std.proofs.lemmas.List.{drop_all, drop_more, length-map, map_push, take_all}
+use Rattle.std.proofs.lemmas.Option.{slice_get_read}
 use Rattle.rsl_accounts.specs.Configuration.{Configuration}
-use Rattle.rsl_book.specs.Restored.{saved}
+use Rattle.rsl_accounts.specs.Limits.{IsConfiguration}
+use Rattle.rsl_accounts.specs.declared.entry.Entry.{Entry}
+use Rattle.rsl_accounts.specs.declared.rules.Rules.{Rules}
+use Rattle.rsl_book.specs.Restored.{misfit, put_back, restored, saved}
 use Rattle.rsl_book.specs.RuledBook.{RuledBook}
-use Rattle.rsl_event.specs.declared.event.Decision.TheVariants.{Done}
+use Rattle.rsl_book.specs.declared.restore_fault.RestoreFault.{RestoreFault}
+use Rattle.rsl_event.specs.declared.event.Event.{Event}
 use Rattle.rsl_session.specs.Saved.{saved_book, saved_links}
 use Rattle.rsl_session.specs.declared.saved.SavedBook.{SavedBook}
 use Rattle.rsl_session.specs.Book.{Book}
+use Rattle.rsl_shard.specs.Moves.{event_to}
 use Rattle.rsl_shard.specs.Opening.{as_new}
-use Rattle.rsl_shard.specs.Restep.{BooksSeen, book_at, new_books, new_books_seen, restep}
-use Rattle.rsl_shard.specs.Rows.{rows_of}
-use Rattle.rsl_shard.specs.Setup.{Setup, setup_of}
+use Rattle.rsl_shard.specs.Restep.{book_of_entry, step_by}
+use Rattle.rsl_shard.specs.Rows.{row_of, rows_from}
 use Rattle.rsl_shard.specs.declared.moved.Move.{Move}
 use Rattle.rsl_shard.specs.declared.row.Row.{Row}
-use Rattle.rsl_shard.proofs.Callers.{renewed_begun, renewed_line}
-use Rattle.rld_books.specs.Saved.{IsServerOf, links_in, rows_in, saved_server, seen_as_new}
-use Rattle.rld_books.specs.Server.{IsServer, new_server, replay, server_after, shard_after}
-use Rattle.rld_books.proofs.Stepping.{new_is_server}
-
--- ---- shard by shard
-
-flat_more : {A B : Type 0} (f : A → List B) (xs : List A) (at : ℕ) (x : A) → at < length xs → x ≡ get_or xs at x → flat_map f (take (at + 1) xs) ≡ flat_map f (take at xs) ++ f x
-flat_more f xs at x within is =
-    ap (flat_map f) (take_more xs at x within) ∙ flat_map-append f (take at xs) (get_or xs at x ∷ [])
-    ∙ ap (λ l. flat_map f (take at xs) ++ l) (append-nil (f (get_or xs at x)) ∙ ap f (sym is))
+use Rattle.rld_books.specs.Saved.{IsServerOf, saved_server}
+use Rattle.rld_books.specs.Server.{IsServer, moved_from, new_server, replay, server_after}
+use Rattle.rld_books.proofs.Numbered.{one_more}
 
 -- ---- of which configuration the books are
 
-renewed : (config : Configuration) (shard : ℕ) → map as_new (new_books config shard) ≡ new_books config shard
-unfolding restep
-renewed config shard = renewed_begun config shard
-
-with_books : Setup → List RuledBook → BooksSeen
-with_books setup books = record { setup = setup; books = books }
-
-each_new : (config : Configuration) (shards : List ℕ) → map seen_as_new (map (new_books_seen config) shards) ≡ map (new_books_seen config) shards
-unfolding with_books
-each_new config [] = refl
-each_new config (shard ∷ shards) =
-    ap (λ (books : List RuledBook). with_books (setup_of config shard) books ∷ map seen_as_new (map (new_books_seen config) shards)) (renewed config shard)
-    ∙ ap (λ (rest : List BooksSeen). new_books_seen config shard ∷ rest) (each_new config shards)
-
 -- new books are those of their configuration
+new_again : (entries : List Entry) → map as_new (map book_of_entry entries) ≡ map book_of_entry entries
+new_again [] = refl
+new_again (entry ∷ entries) = ap (λ (l : List RuledBook). book_of_entry entry ∷ l) (new_again entries)
+
 pub new_is_of : (config : Configuration) → IsServerOf config (new_server config)
-new_is_of config = each_new config (range_with_len 0 config.settings.shards)
+new_is_of config = new_again config.accounts
 
-same_new : (seen : BooksSeen) (moved : Move) → seen_as_new (shard_after moved seen) ≡ seen_as_new seen
-unfolding restep with_books
-same_new seen moved = ap (λ (books : List RuledBook). with_books seen.setup books) (renewed_line (record { setup = seen.setup; first = 0; opening = seen.books; lines = [] }) moved Done)
+stepped_as_new : (event : Option Event) (ruled : RuledBook) → as_new (step_by event ruled) ≡ as_new ruled
+stepped_as_new None ruled = refl
+stepped_as_new (Some event) ruled = refl
 
-after_is_of : (server : List BooksSeen) (moved : Move) → map seen_as_new (server_after server moved) ≡ map seen_as_new server
-after_is_of [] moved = refl
-after_is_of (seen ∷ server) moved =
-    ap (λ (s : BooksSeen). s ∷ map seen_as_new (map (shard_after moved) server)) (same_new seen moved) ∙ ap (λ (l : List BooksSeen). seen_as_new seen ∷ l) (after_is_of server moved)
+moved_as_new : (first : ℕ) (moved : Move) (books : List RuledBook) → map as_new (moved_from first moved books) ≡ map as_new books
+unfolding moved_from
+moved_as_new first moved [] = refl
+moved_as_new first moved (ruled ∷ books) =
+    ap (λ (one : RuledBook). one ∷ map as_new (moved_from (first + 1) moved books)) (stepped_as_new (event_to first moved) ruled)
+    ∙ ap (λ (l : List RuledBook). as_new ruled ∷ l) (moved_as_new (first + 1) moved books)
 
-replay_as_new : (server : List BooksSeen) (moves : List Move) → map seen_as_new (replay server moves) ≡ map seen_as_new server
+replay_as_new : (server : List RuledBook) (moves : List Move) → map as_new (replay server moves) ≡ map as_new server
 unfolding replay
 replay_as_new server [] = refl
-replay_as_new server (moved ∷ moves) = replay_as_new (server_after server moved) moves ∙ after_is_of server moved
+replay_as_new server (moved ∷ moves) = replay_as_new (server_after server moved) moves ∙ moved_as_new 0 moved server
 
 -- and so are the books after moves
-pub replay_is_of : (config : Configuration) (server : List BooksSeen) (moves : List Move) → IsServerOf config server → IsServerOf config (replay server moves)
+pub replay_is_of : (config : Configuration) (server : List RuledBook) (moves : List Move) → IsServerOf config server → IsServerOf config (replay server moves)
 replay_is_of config server moves of = replay_as_new server moves ∙ of
 
 -- ---- books of a configuration are known by what is saved of them
 
-record AreSame (xs ys : List RuledBook) (rest more : List Book) : Type 0 where
-  pub same : xs ≡ ys
-  pub left : rest ≡ more
-
-same_front : (xs ys : List RuledBook) (rest more : List Book) → map as_new xs ≡ map as_new ys → map saved xs ++ rest ≡ map saved ys ++ more → AreSame xs ys rest more
-same_front [] [] rest more rules books = record { same = refl; left = books }
-same_front [] (y ∷ ys) rest more rules books = absurd (cc rules)
-same_front (x ∷ xs) [] rest more rules books = absurd (cc rules)
-same_front (x ∷ xs) (y ∷ ys) rest more rules books =
+same_books : (xs ys : List RuledBook) → map as_new xs ≡ map as_new ys → map saved xs ≡ map saved ys → xs ≡ ys
+same_books [] [] rules books = refl
+same_books [] (y ∷ ys) rules books = absurd (cc rules)
+same_books (x ∷ xs) [] rules books = absurd (cc rules)
+same_books (x ∷ xs) (y ∷ ys) rules books =
     let new : as_new x ≡ as_new y = cc in
     let others : map as_new xs ≡ map as_new ys = cc in
     let rule : x.rules ≡ y.rules = ap (λ (r : RuledBook). r.rules) new in
     let book : x.book ≡ y.book = cc in
-    let left : map saved xs ++ rest ≡ map saved ys ++ more = cc in
+    let left : map saved xs ≡ map saved ys = cc in
     let one : x ≡ y = (λ i. record { rules = rule i; book = book i }) in
-    let front = same_front xs ys rest more others left in
-    record { same = ap (λ (r : RuledBook). r ∷ xs) one ∙ ap (λ (l : List RuledBook). y ∷ l) front.same; left = front.left }
+    ap (λ (r : RuledBook). r ∷ xs) one ∙ ap (λ (l : List RuledBook). y ∷ l) (same_books xs ys others left)
 
-same_server : (a b : List BooksSeen) → map seen_as_new a ≡ map seen_as_new b → saved_server a ≡ saved_server b → a ≡ b
-same_server [] [] of books = refl
-same_server [] (y ∷ b) of books = absurd (cc of)
-same_server (x ∷ a) [] of books = absurd (cc of)
-same_server (x ∷ a) (y ∷ b) of books =
-    let new : seen_as_new x ≡ seen_as_new y = cc in
-    let others : map seen_as_new a ≡ map seen_as_new b = cc in
-    let setup : x.setup ≡ y.setup = ap (λ (s : BooksSeen). s.setup) new in
-    let front = same_front x.books y.books (saved_server a) (saved_server b) (ap (λ (s : BooksSeen). s.books) new) books in
-    let one : x ≡ y = (λ i. record { setup = setup i; books = front.same i }) in
-    ap (λ (s : BooksSeen). s ∷ a) one ∙ ap (λ (l : List BooksSeen). y ∷ l) (same_server a b others front.left)
-
-pub one_server : (config : Configuration) (a b : List BooksSeen) → IsServerOf config a → IsServerOf config b → saved_server a ≡ saved_server b → a ≡ b
-one_server config a b of_a of_b books = same_server a b (of_a ∙ sym of_b) books
+pub one_server : (config : Configuration) (a b : List RuledBook) → IsServerOf config a → IsServerOf config b → saved_server a ≡ saved_server b → a ≡ b
+one_server config a b of_a of_b books = same_books a b (of_a ∙ sym of_b) books
 
 -- ---- what is put back
 
--- and a shard more
-pub shard_back : (shards all : List BooksSeen) (left rest kept : List SavedBook) (shard : BooksSeen) (books : List RuledBook) → saved_server shards ++ map saved_book left ≡ map saved_book kept
-    → map saved books ++ map saved_book rest ≡ map saved_book left → shard.books ≡ books → all ≡ shards ++ shard ∷ [] → saved_server all ++ map saved_book rest ≡ map saved_book kept
-shard_back shards all left rest kept shard books so this has are =
-    let one : BooksSeen → List Book = λ (seen : BooksSeen). map saved seen.books in
-    ap (λ (l : List BooksSeen). saved_server l ++ map saved_book rest) are
-    ∙ ap (λ (l : List Book). l ++ map saved_book rest) (flat_map-append one shards (shard ∷ []) ∙ ap (λ (l : List Book). saved_server shards ++ l) (append-nil (one shard)))
-    ∙ append_assoc (saved_server shards) (one shard) (map saved_book rest)
-    ∙ ap (λ (l : List RuledBook). saved_server shards ++ (map saved l ++ map saved_book rest)) has
-    ∙ ap (λ (l : List Book). saved_server shards ++ l) this ∙ so
+same_ok : (a b : RuledBook) (r s : Result RuledBook RestoreFault) → r ≡ Ok a → s ≡ Ok b → r ≡ s → a ≡ b
+same_ok a b r s one other same = cc
 
-pub shard_is_of : (config : Configuration) (shards all : List BooksSeen) (number : ℕ) (shard : BooksSeen) → map seen_as_new shards ≡ map (new_books_seen config) (range_with_len 0 number)
-    → shard.setup ≡ setup_of config number → map as_new shard.books ≡ new_books config number → all ≡ shards ++ shard ∷ []
-    → map seen_as_new all ≡ map (new_books_seen config) (range_with_len 0 (number + 1))
-shard_is_of config shards all number shard so setup books are =
-    let one : seen_as_new shard ≡ new_books_seen config number = (λ i. record { setup = setup i; books = books i }) in
-    ap (map seen_as_new) are ∙ map-append seen_as_new shards (shard ∷ [])
-    ∙ ap (λ (l : List BooksSeen). l ++ seen_as_new shard ∷ []) so
-    ∙ ap (λ (s : BooksSeen). map (new_books_seen config) (range_with_len 0 number) ++ s ∷ []) one
-    ∙ sym (map-range_with_len_more (new_books_seen config) 0 number number (omega arith))
+no_ok : (fault : RestoreFault) (b : RuledBook) (r s : Result RuledBook RestoreFault) → r ≡ Err fault → s ≡ Ok b → r ≡ s → ⊥
+no_ok fault b r s one other same = cc
 
--- with the rows of one shard more
-pub rows_more : (shards : List BooksSeen) (at : ℕ) (shard : BooksSeen) (had more all : List Row) → at < length shards → shard ≡ get_or shards at shard → had ≡ rows_in (take at shards)
-    → more ≡ rows_of shard.setup shard.books → all ≡ had ++ more → all ≡ rows_in (take (at + 1) shards)
-rows_more shards at shard had more all within is so_far this are =
-    let f : BooksSeen → List Row = λ (seen : BooksSeen). rows_of seen.setup seen.books in
-    are ∙ ap (λ (l : List Row). l ++ more) so_far ∙ ap (λ (l : List Row). flat_map f (take at shards) ++ l) this ∙ sym (flat_more f shards at shard within is)
+-- a book that was put back has the rules and what was saved
+pub put_back_is : (rules : Rules) (book : Book) (ruled : RuledBook) → restored rules book ≡ Ok ruled → ruled ≡ record { rules = rules; book = book }
+put_back_is rules book ruled is = by (misfit rules book) is
+  where
+    by : (o : Option RestoreFault) → put_back rules book o ≡ Ok ruled → ruled ≡ record { rules = rules; book = book }
+    by None is =
+        let made : RuledBook = record { rules = rules; book = book } in
+        let back : Result RuledBook RestoreFault = Ok made in
+        let found : Result RuledBook RestoreFault = Ok ruled in
+        sym (same_ok made ruled back found refl refl is)
+    by (Some fault) is =
+        let back : Result RuledBook RestoreFault = Err fault in
+        let found : Result RuledBook RestoreFault = Ok ruled in
+        absurd (no_ok fault ruled back found refl refl is)
+
+-- one more is put back
+pub record ArePutBack (config : Configuration) (kept : List SavedBook) (number : ℕ) (books : List RuledBook) : Type 0 where
+  pub rules : map as_new books ≡ map book_of_entry (take number config.accounts)
+  pub saved_are : map saved books ≡ map saved_book (take number kept)
+
+pub one_back : (config : Configuration) (kept : List SavedBook) (number : ℕ) (books all : List RuledBook) (entry : Entry) (one : SavedBook) (made : RuledBook)
+    → ArePutBack config kept number books → slice_get config.accounts number ≡ Some entry → number < length kept → one ≡ get_or kept number one
+    → made ≡ record { rules = entry.rules; book = saved_book one } → all ≡ books ++ made ∷ [] → ArePutBack config kept (number + 1) all
+one_back config kept number books all entry one made so there within is has are = record {
+  rules = ap (map as_new) are ∙ map_push as_new books made
+      ∙ one_more book_of_entry config.accounts number entry (map as_new books) (as_new made) there so.rules (ap as_new has);
+  saved_are = ap (map saved) are ∙ map_push saved books made
+      ∙ one_more saved_book kept number one (map saved books) (saved made) (slice_get_read kept (length kept) number one refl within is) so.saved_are (ap saved has);
+}
+
+pub all_back_rules : (config : Configuration) (kept : List SavedBook) (number : ℕ) (books : List RuledBook) → ArePutBack config kept number books → length config.accounts ≤ number → IsServerOf config books
+all_back_rules config kept number books so past = so.rules ∙ ap (map book_of_entry) (take_all number config.accounts past)
+
+pub all_back_saved : (config : Configuration) (kept : List SavedBook) (number : ℕ) (books : List RuledBook) → ArePutBack config kept number books → length kept ≤ number → saved_server books ≡ map saved_book kept
+all_back_saved config kept number books so past = so.saved_are ∙ ap (map saved_book) (take_all number kept past)
+
+-- ---- rows
+
+-- with the rows of the books that are left they are all rows
+pub row_more : (account at : ℕ) (rows more all : List Row) (books : List RuledBook) (book : RuledBook) (row : Row) → at < length books → book ≡ get_or books at book
+    → row ≡ row_of account book → more ≡ rows ++ row ∷ [] → rows ++ rows_from account 1 (drop at books) ≡ all → more ++ rows_from (account + 1) 1 (drop (at + 1) books) ≡ all
+unfolding rows_from
+row_more account at rows more all books book row within is made are so_far =
+    ap (λ (l : List Row). l ++ rows_from (account + 1) 1 (drop (at + 1) books)) (are ∙ ap (λ (r : Row). rows ++ r ∷ []) made)
+    ∙ append_assoc rows (row_of account book ∷ []) (rows_from (account + 1) 1 (drop (at + 1) books))
+    ∙ ap (λ (one : RuledBook). rows ++ row_of account one ∷ rows_from (account + 1) 1 (drop (at + 1) books)) is
+    ∙ ap (λ (rest : List RuledBook). rows ++ rows_from account 1 rest) (sym (drop_more books at book within))
+    ∙ so_far
+
+pub rows_done : (account at : ℕ) (rows all : List Row) (books : List RuledBook) → length books ≤ at → rows ++ rows_from account 1 (drop at books) ≡ all → rows ≡ all
+unfolding rows_from
+rows_done account at rows all books past so_far =
+    sym (append-nil rows) ∙ ap (λ (rest : List RuledBook). rows ++ rows_from account 1 rest) (sym (drop_all at books past)) ∙ so_far
 
 -- ---- what is looked up
 
@@ -141,23 +140,9 @@ pub links_of_saved : (kept : SavedBook) (ruled : RuledBook) → saved_book kept 
 unfolding saved_book
 links_of_saved kept ruled same = ap (λ (b : Book). b.links) same
 
-pub looked_up : (server : List BooksSeen) (account index : ℕ) (here : BooksSeen) (ruled : RuledBook) → index < length server → index ≡ account % length server → here ≡ get_or server index here
-    → book_at here.setup here.books account ≡ Some ruled → links_in server account ≡ Some ruled.book.links
-looked_up server account index here ruled within at value is =
-    let there : slice_get server (account % length server) ≡ Some here = ap (slice_get server) (sym at) ∙ slice_get_read server (length server) index here refl within value in
-    ap (λ (o : Option BooksSeen). option_map (λ (r : RuledBook). r.book.links) (option_and_then (λ (seen : BooksSeen). book_at seen.setup seen.books account) o)) there
-    ∙ ap (option_map (λ (r : RuledBook). r.book.links)) is
-
 -- ---- what is kept
 
-pub of_is_server : (config : Configuration) (server : List BooksSeen) → 0 < config.settings.shards → config.settings.shards ≤ 4 → IsServerOf config server → IsServer server
-of_is_server config server some few of =
-    let new = new_is_server config some few in
-    let long : length server ≡ length (new_server config) = sym (length-map server seen_as_new) ∙ ap length of in
-    record {
-      some = omega (arith, long, new.some);
-      few = omega (arith, long, new.few);
-      each = λ number seen at.
-          let numbered = new.each number (seen_as_new seen) (sym (ap (λ (l : List BooksSeen). slice_get l number) of) ∙ slice_get-map seen_as_new server number ∙ ap (option_map seen_as_new) at) in
-          record { shard = numbered.shard; shards = numbered.shards ∙ sym long };
-    }
+pub of_is_server : (config : Configuration) (server : List RuledBook) → IsConfiguration config → IsServerOf config server → IsServer server
+of_is_server config server limits of =
+    let long : length server ≡ length (new_server config) = sym (length-map server as_new) ∙ ap length of in
+    record { few = omega (arith, long, length-map config.accounts book_of_entry, limits.accounts) }

@@ -1,6 +1,6 @@
--- A book carried over into the next era.
+-- A book carried over when the accounts change.
 --
--- A client goes on if its address is one of the next era too, under the number that the address has
+-- A client goes on if its address is there after the change too, under the number that the address has
 -- there: `next` gives that number, and none for a client that is gone. What a book has of a client
 -- that is gone is left out. The other links go on, in the order in which they opened, if they find
 -- a place under the account's new rules. Nothing else changes: not the clock, the stations,
@@ -16,7 +16,7 @@ use Rattle.rsl_session.specs.declared.kept.KeptAsk.{KeptAsk}
 use Rattle.rsl_session.specs.declared.kept.KeptStop.{KeptStop}
 use Rattle.rsl_session.specs.declared.session.Session.{Session}
 
--- for the number of a client, its number in the next era, if it goes on
+-- for the number of a client, its number after the change, if it goes on
 abbrev pub Next : Type 0
 Next = ℕ → Option ℕ
 
@@ -24,7 +24,7 @@ Next = ℕ → Option ℕ
 abbrev pub goes_on : Next → Nas → Bool
 goes_on next nas = is_some (next nas.client)
 
--- an access server, session and bundle as the next era names them
+-- an access server, session and bundle as they are named after the change
 abbrev pub carried_nas : Next → Nas → Nas
 carried_nas next nas = record { client = unwrap_or (next nas.client) nas.client; name = nas.name }
 
@@ -93,7 +93,7 @@ placed rules links (link ∷ more) =
     then placed rules (links ++ link ∷ []) more
     else placed rules links more
 
--- the book under the rules of the next era
+-- the book under the rules after the change
 unfoldable pub carried_book : Next → Rules → Book → Book
 carried_book next rules book = record {
   clock = book.clock;

@@ -5,7 +5,6 @@ use Rattle.rsl_book.specs.RuledBook.{RuledBook}
 use Rattle.rsl_session.specs.Book.{Book, BookLink}
 use Rattle.rsl_session.specs.declared.kept.KeptAsk.{KeptAsk}
 use Rattle.rsl_session.specs.declared.kept.KeptStop.{KeptStop}
-use Rattle.rsl_shard.specs.Restep.{BooksSeen}
 use Rattle.rld_books.specs.Saved.{saved_server}
 
 -- the earlier of two moments
@@ -53,12 +52,9 @@ cut_book now book = record {
 abbrev pub cut_ruled : (now : ℕ) → RuledBook → RuledBook
 cut_ruled now ruled = record { rules = ruled.rules; book = cut_book now ruled.book }
 
-abbrev pub cut_shard : (now : ℕ) → BooksSeen → BooksSeen
-cut_shard now seen = record { setup = seen.setup; books = map (cut_ruled now) seen.books }
-
 -- the books of a server, each of them cut
-abbrev pub cut_server : (now : ℕ) → List BooksSeen → List BooksSeen
-cut_server now server = map (cut_shard now) server
+abbrev pub cut_server : (now : ℕ) → List RuledBook → List RuledBook
+cut_server now server = map (cut_ruled now) server
 
 -- ---- how many moments are cut
 
@@ -75,5 +71,5 @@ late_in now book =
     + sum_by (λ (stop : KeptStop). late now stop.at) book.stops
 
 -- the later moments of all books of a server
-abbrev pub late_in_server : (now : ℕ) → List BooksSeen → ℕ
+abbrev pub late_in_server : (now : ℕ) → List RuledBook → ℕ
 late_in_server now server = sum_by (late_in now) (saved_server server)

@@ -1,4 +1,4 @@
--- Laws of what is carried over into the next era.
+-- Laws of what is carried over when the accounts change.
 --
 -- They speak of a book that was saved, as any book of a server can be: its links name their
 -- sessions and bundles at their own access servers.
@@ -20,8 +20,8 @@ use Rattle.rsl_session.specs.Closed.{closes}
 use Rattle.rsl_session.specs.declared.kept.KeptAsk.{KeptAsk}
 use Rattle.rsl_session.specs.declared.kept.KeptStop.{KeptStop}
 use Rattle.rsl_session.specs.declared.session.Session.{Session}
-use Rattle.rld_spelling.specs.Eras.{EraSeen}
-use Rattle.rld_spelling.specs.declared.era.EraClient.{EraClient}
+use Rattle.rld_spelling.specs.TableSpelled.{TableSeen}
+use Rattle.rld_spelling.specs.declared.table.TableClient.{TableClient}
 use Rattle.rld_books.specs.Admitted.{addresses_of, next_number}
 use Rattle.rld_books.specs.Carried.{Next, carried_book, carried_session, goes_on, links_on}
 
@@ -76,7 +76,7 @@ NobodyNewComesIn =
     → ((carried_book next rules book).links ≡ links_on next book.links → ⊥)
     → places_in rules (carried_book next rules book) ≡ rules.places
 
--- the number of some client in the next era
+-- the number of some client after the change
 abbrev pub IsNext : Next → ℕ → Type 0
 IsNext next number = (client : ℕ) × (next client ≡ Some number)
 
@@ -98,18 +98,18 @@ CarriedBooksFit =
 
 -- ---- the numbers of clients
 
--- clients of two eras with one address
-pub record IsSameClient (old new : EraSeen) (client number : ℕ) : Type 0 where
-  pub was : EraClient
-  pub is : EraClient
+-- clients of two tables with one address
+pub record IsSameClient (old new : TableSeen) (client number : ℕ) : Type 0 where
+  pub was : TableClient
+  pub is : TableClient
   pub there_before : slice_get old.clients client ≡ Some was
   pub there : slice_get new.clients number ≡ Some is
   pub address : was.address ≡ is.address
 
--- The number of a client in the next era is that of its address, and no two of an era's clients
+-- The number of a client after the change is that of its address, and no two of a table's clients
 -- become one if no address comes twice in it.
 pub record ClientsKeepTheirAddress : Type 0 where
-  pub same : (old new : EraSeen) (client number : ℕ) → next_number old new client ≡ Some number
+  pub same : (old new : TableSeen) (client number : ℕ) → next_number old new client ≡ Some number
       → IsSameClient old new client number
-  pub one_to_one : (old new : EraSeen) → comes_twice (addresses_of old) ≡ false
+  pub one_to_one : (old new : TableSeen) → comes_twice (addresses_of old) ≡ false
       → IsOneToOne (next_number old new)

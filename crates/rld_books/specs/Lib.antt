@@ -1,11 +1,12 @@
+pub mod Admitted
+pub mod Begun
 pub mod Blank
+pub mod Carried
 pub mod Clocks
 pub mod Cut
 pub mod CutLaws
-pub mod Saved
-pub mod Server
-pub mod Admitted
-pub mod Begun
-pub mod Carried
+pub mod Dealt
 pub mod Laws
 pub mod Numbers
+pub mod Saved
+pub mod Server

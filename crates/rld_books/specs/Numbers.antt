@@ -1,4 +1,4 @@
--- The numbers of clients in the next era, as a list by their present numbers.
+-- The numbers of clients after a change of the accounts, as a list by their present numbers.
 use Rattle.std.specs.Prelude.{ℕ, List, map, slice_get, Option}
 use Rattle.std.specs.Option.{option_and_then}
 use Rattle.rsl_accounts.specs.Configuration.{Configuration, client_number}

@@ -1,4 +1,4 @@
-//! Carrying a book over into the next era.
+//! Carrying a book over when the accounts change.
 
 ghost use Rattle.std.specs.Prelude.{◌≡◌, ◌≤◌, [], ◌∷◌, ◌++◌, IfOk, OnOk, Some};
 ghost use Rattle.rsl_accounts.specs.Limits.{RulesFit};
@@ -26,7 +26,7 @@ use rsl_session::{KeptAsk, KeptStop, SavedBook, SavedHolder, SavedLink, Session}
 use rsl_wire::{NoMemory, Octets};
 use std::alloc::Global;
 
-/// The access server of this name, of the client with this number in the next era.
+/// The access server of this name, of the client with this number after the change.
 fn nas_of(alloc: Global, client: u32, nas: &Nas) -> Result<Nas, NoMemory>
     ensures { IfOk result (λ made. made ≡ record { client = client; name = nas.now.name }) }
 {
@@ -44,7 +44,7 @@ fn holder_of(alloc: Global, holder: &SavedHolder) -> Result<SavedHolder, NoMemor
     })
 }
 
-/// A link whose client has this number in the next era.
+/// A link whose client has this number after the change.
 fn link_of(alloc: Global, client: u32, link: &SavedLink) -> Result<SavedLink, NoMemory>
     ensures { IfOk result (λ made. (next : Next) → next link.now.nas.client ≡ Some client →
         saved_link made ≡ carried_link next (saved_link link.now)) }
@@ -59,7 +59,7 @@ fn link_of(alloc: Global, client: u32, link: &SavedLink) -> Result<SavedLink, No
     })
 }
 
-/// A fresh ask whose client has this number in the next era.
+/// A fresh ask whose client has this number after the change.
 fn ask_of(alloc: Global, client: u32, ask: &KeptAsk) -> Result<KeptAsk, NoMemory>
     ensures { IfOk result (λ made. (next : Next) → next ask.now.nas.client ≡ Some client →
         made ≡ carried_ask next ask.now) }
@@ -73,7 +73,7 @@ fn ask_of(alloc: Global, client: u32, ask: &KeptAsk) -> Result<KeptAsk, NoMemory
     })
 }
 
-/// A stop whose client has this number in the next era.
+/// A stop whose client has this number after the change.
 fn stop_of(alloc: Global, client: u32, stop: &KeptStop) -> Result<KeptStop, NoMemory>
     ensures { IfOk result (λ made. (next : Next) → next stop.now.session.nas.client ≡ Some client →
         made ≡ carried_stop next stop.now) }
@@ -199,7 +199,7 @@ fn stops_of(
     Ok(made)
 }
 
-/// A book carried over under these rules, when its clients have these numbers in the next era.
+/// A book carried over under these rules, when its clients have these numbers after the change.
 pub(crate) fn carry(
     alloc: Global,
     numbers: &[Option<u32>],

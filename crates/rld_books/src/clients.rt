@@ -1,4 +1,4 @@
-//! The numbers of clients in two eras.
+//! The numbers of clients before and after a change.
 
 ghost use Rattle.std.specs.Prelude.{◌≡◌, IfOk};
 ghost use Rattle.rld_books.specs.Numbers.{next_numbers, number_in};
@@ -23,7 +23,7 @@ pub(crate) fn next_numbers(
     Ok(numbers)
 }
 
-/// The number of a client in the next era, if it is still there.
+/// The number of a client after the change, if it is still there.
 pub(crate) fn number_in(numbers: &[Option<u32>], client: u32) -> Option<u32>
     ensures { result ≡ number_in numbers.now client }
 {

@@ -1,12 +1,12 @@
 //! The configuration of a table.
 
-ghost use Rattle.std.specs.Prelude.{◌≡◌, ℕ, IfOk};
-ghost use Rattle.rld_spelling.specs.Eras.{era_octets};
+ghost use Rattle.std.specs.Prelude.{◌≡◌, IfOk};
+ghost use Rattle.rld_spelling.specs.TableSpelled.{table_octets, table_seen};
 ghost use Rattle.rld_spelling.specs.Tables.{table_of};
 
 use crate::fault::TableFault;
-use crate::table::is_era_file;
-use rld_spelling::{Era, EraAccount, EraClient, ReadFault};
+use crate::table::is_table_of;
+use rld_spelling::{ReadFault, SpellFault, Table, TableAccount, TableClient};
 use rsl_accounts::{Client, Config, ConfigFault, Entry, Reply, Rules, Secret, Settings, Text};
 use std::alloc::Global;
 
@@ -16,36 +16,49 @@ const VERSION: u64 = 2;
 /// The password of each account and the secret of each client: no decision depends on one.
 const NO_SECRET: &str = "-";
 
-/// A configuration whose era's file has these octets: its accounts have the names and rules of the
-/// table, its clients the addresses; all passwords and secrets are equal.
+/// A configuration that has a table: its accounts have the names and rules of the table, its
+/// clients the addresses; all passwords and secrets are equal.
 ///
-/// `Malformed` comes if the octets spell no table, `NoConfiguration` if no configuration has that
-/// table, and `NoMemory` if memory is refused.
-pub fn config_of(alloc: Global, file: &[u8]) -> Result<Config, TableFault>
+/// `NoConfiguration` comes if no configuration has that table, and `NoMemory` if memory is refused.
+pub fn config_with(alloc: Global, table: &Table) -> Result<Config, TableFault>
     ensures { IfOk result (λ config.
-        (boot : ℕ) × (file.now ≡ era_octets (table_of boot config))) }
+        table_octets (table_seen table.now) ≡ table_octets (table_of config)) }
 {
-    let era = match Era::read(alloc, file) {
-        Ok(era) => era,
-        Err(ReadFault::NoMemory) => return Err(TableFault::NoMemory),
-        Err(ReadFault::Malformed(fault)) => return Err(TableFault::Malformed(fault)),
-    };
-    let config = made_of(alloc, &era)?;
-    if is_era_file(alloc, &config, era.boot, file)? {
+    let config = made_of(alloc, table)?;
+    let mut spelled = Vec::new(alloc);
+    match table.push(&mut spelled) {
+        Ok(()) => {}
+        Err(SpellFault::NoMemory) => return Err(TableFault::NoMemory),
+        Err(SpellFault::Unfit) => return Err(TableFault::NoConfiguration),
+    }
+    if is_table_of(alloc, &config, spelled.as_slice())? {
         Ok(config)
     } else {
         Err(TableFault::NoConfiguration)
     }
 }
 
+/// A configuration whose table has these octets.
+///
+/// The faults are those of `config_with`, and before them `Malformed` if the octets spell no table.
+pub fn config_of(alloc: Global, octets: &[u8]) -> Result<Config, TableFault>
+    ensures { IfOk result (λ config. octets.now ≡ table_octets (table_of config)) }
+{
+    match Table::read(alloc, octets) {
+        Ok(table) => config_with(alloc, &table),
+        Err(ReadFault::NoMemory) => Err(TableFault::NoMemory),
+        Err(ReadFault::Malformed(fault)) => Err(TableFault::Malformed(fault)),
+    }
+}
+
 /// A configuration with the accounts and clients of a table, if there is one.
-fn made_of(alloc: Global, era: &Era) -> Result<Config, TableFault> {
-    let Some(first) = era.accounts.first() else {
+fn made_of(alloc: Global, table: &Table) -> Result<Config, TableFault> {
+    let Some(first) = table.accounts.first() else {
         return Err(TableFault::NoConfiguration);
     };
-    let settings = settings_of(era.shards, &first.rules);
-    let clients = clients_of(alloc, era.clients.as_slice())?;
-    let accounts = accounts_of(alloc, era.accounts.as_slice())?;
+    let settings = settings_of(&first.rules);
+    let clients = clients_of(alloc, table.clients.as_slice())?;
+    let accounts = accounts_of(alloc, table.accounts.as_slice())?;
     match Config::make(alloc, settings, clients, accounts) {
         Ok(config) => Ok(config),
         Err(ConfigFault::NoMemory) => Err(TableFault::NoMemory),
@@ -55,10 +68,10 @@ fn made_of(alloc: Global, era: &Era) -> Result<Config, TableFault> {
 
 /// The settings of accounts of which one has these rules. Live and grace times are each account's
 /// own.
-fn settings_of(shards: u64, rules: &Rules) -> Settings {
+fn settings_of(rules: &Rules) -> Settings {
     Settings {
         version: VERSION,
-        shards,
+        shards: 1,
         reserve: rules.reserve,
         live: rules.live,
         grace: rules.grace,
@@ -71,7 +84,7 @@ fn settings_of(shards: u64, rules: &Rules) -> Settings {
 }
 
 /// Clients with these addresses.
-fn clients_of(alloc: Global, rows: &[EraClient]) -> Result<Vec<Client>, TableFault> {
+fn clients_of(alloc: Global, rows: &[TableClient]) -> Result<Vec<Client>, TableFault> {
     let mut clients = Vec::new(alloc);
     for row in rows {
         let client = Client {
@@ -87,7 +100,7 @@ fn clients_of(alloc: Global, rows: &[EraClient]) -> Result<Vec<Client>, TableFau
 }
 
 /// Accounts with these names and rules.
-fn accounts_of(alloc: Global, rows: &[EraAccount]) -> Result<Vec<Entry>, TableFault> {
+fn accounts_of(alloc: Global, rows: &[TableAccount]) -> Result<Vec<Entry>, TableFault> {
     let mut accounts = Vec::new(alloc);
     for row in rows {
         accounts.push(account_of(alloc, row)?)?;
@@ -96,7 +109,7 @@ fn accounts_of(alloc: Global, rows: &[EraAccount]) -> Result<Vec<Entry>, TableFa
 }
 
 /// An account with a name and rules.
-fn account_of(alloc: Global, row: &EraAccount) -> Result<Entry, TableFault> {
+fn account_of(alloc: Global, row: &TableAccount) -> Result<Entry, TableFault> {
     let Ok(name) = str::from_utf8(row.name.as_slice()) else {
         return Err(TableFault::NoConfiguration);
     };

@@ -47,7 +47,7 @@ impl From<RestoreFault> for ServerFault {
     }
 }
 
-/// Why the octets of an era's file give no configuration.
+/// Why the octets of a table give no configuration.
 #[derive(Clone, Copy)]
 pub enum TableFault {
     /// Memory was refused.

@@ -1,4 +1,4 @@
-//! Laws of books that are cut to a moment, and of what is carried over into the next era. Each is the
+//! Laws of books that are cut to a moment, and of what is carried over when the accounts change. Each is the
 //! contract of a function that does nothing.
 
 ghost use Rattle.rld_books.specs.CutLaws.{BooksUpToStay, CutBooksAreUpTo, CutBooksFit};

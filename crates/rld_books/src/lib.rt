@@ -1,4 +1,4 @@
-//! The books of a server, of all its shards, without a journal; and those with which its next era begins.
+//! The books of all accounts, without a journal; and what of them goes on with other accounts.
 //!
 //! The promise: a batch of moves is decided as its journal says, and the books are then what the
 //! moves make of them. A batch allocates nothing, given room for its decisions.
@@ -8,17 +8,14 @@
 //!
 //! `specs/Server.antt` says what a move does to the books, and what the journal of moves is;
 //! `specs/Saved.antt` what is saved of the books; `specs/Cut.antt` what a cut does to them;
-//! `specs/Blank.antt` what blank books are.
+//! `specs/Blank.antt` what blank books are; `specs/Dealt.antt` how books stand in old snapshots.
 //!
-//! The numbers of an era hold while the accounts, their rules, the clients' addresses and the
-//! shards stay.
+//! The numbers of accounts and clients hold while the table stays: the accounts, their rules and the
+//! clients' addresses, in their order. Passwords, secrets and what an accept carries may differ. The
+//! table of a configuration is defined in `rld_spelling`, `specs/Tables.antt`. A table also gives a
+//! configuration that has it, by which a log is read.
 //!
-//! The promise of an era: its table is that of the configuration that it begins with, and it goes
-//! on exactly with a configuration that has the same. Passwords, secrets and what an accept carries
-//! may differ. The table of a configuration is defined in `rld_spelling`, `specs/Tables.antt`. A
-//! table also gives a configuration that has it, by which its era's logs are read.
-//!
-//! The promise of the next era: an account that keeps its name begins with the book of that name,
+//! The promise of a change: an account that keeps its name begins with the book of that name,
 //! at the clients that keep their addresses, and every other account with a new book. So an account
 //! that stays with its rules has the same sessions with the same last touches, the same closed
 //! sessions and the same kept asks; no account holds more places than its rules now have; and
@@ -41,7 +38,7 @@ mod table;
 
 pub use admission::admit;
 pub use blank_books::BlankBooks;
-pub use configuration::config_of;
+pub use configuration::{config_of, config_with};
 pub use fault::{ServerFault, TableFault};
 pub use server_books::{CutBooks, ServerBooks};
-pub use table::{era_file, is_era_file, table_of};
+pub use table::{is_table_of, table_octets, table_of};

@@ -1,4 +1,4 @@
-ghost use Rattle.std.specs.Prelude.{◌≡◌, ◌%◌, ◌<◌, ◌≤◌, ◌↔◌, IfOk, IsTrue, length, map, vec_capacity, vec_len};
+ghost use Rattle.std.specs.Prelude.{◌≡◌, ◌<◌, ◌≤◌, ◌↔◌, IfOk, IsTrue, Some, length, map, vec_capacity, vec_len};
 ghost use Rattle.rld_books.specs.Server.{
   AreTakenIn,
   IsOwnIn,
@@ -9,72 +9,76 @@ ghost use Rattle.rld_books.specs.Server.{
   new_server,
   replay,
   server_after,
-  shard_after,
 };
-ghost use Rattle.rsl_shard.specs.declared.moved.Move.TheVariants as moves;
+ghost use Rattle.rsl_event.specs.Prepared.{IsOfOneAccount};
+ghost use Rattle.rsl_event.specs.declared.event.Act.TheVariants.{Sweep, Tick};
 ghost use Rattle.rsl_event.specs.declared.event.Decision.TheVariants.{Done as done};
+ghost use Rattle.rsl_shard.specs.Restep.{step_by};
+ghost use Rattle.rsl_shard.specs.declared.moved.Move.TheVariants as moves;
 
 mod cutting;
+mod dealt;
 mod looking;
 mod saving;
 
 pub use cutting::CutBooks;
 use rsl_accounts::Config;
-use rsl_event::{Decision, Event, Nas};
-use rsl_shard::{Books, Move};
+use rsl_book::Book;
+use rsl_event::{Act, Decision, Event, Nas};
+use rsl_shard::Move;
 use rsl_wire::NoMemory;
 use std::alloc::Global;
 use std::marker::Model;
 
-/// The books of all accounts, by shards.
+/// The books of all accounts, in the order of their numbers.
 ///
-/// A contract sees the books of each shard, in the order of the shards' numbers.
+/// A contract sees each book with its account's rules.
 #[derive(Drop)]
 pub struct ServerBooks {
-    shards: Vec<Books>,
+    list: Vec<Book>,
 }
 
 impl Model for ServerBooks {
     ghost use Rattle.std.specs.Prelude.{List};
-    ghost use Rattle.rsl_shard.specs.Restep.{BooksSeen};
+    ghost use Rattle.rsl_book.specs.RuledBook.{RuledBook};
     ghost use Rattle.rld_books.specs.Server.{IsServer};
 
-    ghost Value = { List BooksSeen };
+    ghost Value = { List RuledBook };
 
-    ghost view = { λ inside. inside.shards.items };
+    ghost view = { λ inside. inside.list.items };
 
-    ghost invariant = { λ inside. IsServer inside.shards.items };
+    ghost invariant = { λ inside. IsServer inside.list.items };
 }
 
-/// New books for each shard.
-fn new_shards(alloc: Global, config: &Config) -> Result<Vec<Books>, NoMemory>
-    ensures new { IfOk result (λ shards. shards.items ≡ new_server config.now) }
-    ensures server { IfOk result (λ shards. IsServer shards.items) }
+/// Whether an act concerns one account: an ask, an alive or a stop.
+fn is_of_one_account(act: &Act) -> bool
+    ensures { IsTrue result ↔ IsOfOneAccount act.now }
 {
-    let mut shards = Vec::new(alloc);
-    for number in 0..config.shards() {
-        shards.push(Books::new(alloc, config, number)?)?;
-    }
-    Ok(shards)
-}
-
-/// Sweeps the books of each shard.
-#[tactic(auto, using(crate::proofs::Stepping::each_steps))]
-fn sweep_each(shards: &mut [Books], moment: u64, nas: &Nas, delay: u64)
-    ensures { shards.new ≡ map (shard_after (moves.Sweep moment nas.now delay)) shards.old }
-{
-    for index in 0..shards.len() {
-        shards[index].sweep(moment, nas, delay);
+    match act {
+        Act::Ask { .. } | Act::Alive { .. } | Act::Stop { .. } => true,
+        Act::Sweep { .. } | Act::Tick => false,
     }
 }
 
-/// Ticks the books of each shard.
+/// Sweeps each book, of an access server that restarted `delay` seconds ago.
 #[tactic(auto, using(crate::proofs::Stepping::each_steps))]
-fn tick_each(shards: &mut [Books], moment: u64)
-    ensures { shards.new ≡ map (shard_after (moves.Tick moment)) shards.old }
+fn sweep_each(books: &mut [Book], moment: u64, nas: &Nas, delay: u64)
+    ensures { books.new ≡
+        map (step_by (Some (record { moment = moment; act = Sweep nas.now delay }))) books.old }
 {
-    for index in 0..shards.len() {
-        shards[index].tick(moment);
+    for index in 0..books.len() {
+        books[index].sweep(moment, nas, delay);
+    }
+}
+
+/// Ticks each book.
+#[tactic(auto, using(crate::proofs::Stepping::each_steps))]
+fn tick_each(books: &mut [Book], moment: u64)
+    ensures { books.new ≡
+        map (step_by (Some (record { moment = moment; act = Tick }))) books.old }
+{
+    for index in 0..books.len() {
+        books[index].tick(moment);
     }
 }
 
@@ -83,16 +87,11 @@ impl ServerBooks {
     pub fn new(alloc: Global, config: &Config) -> Result<ServerBooks, NoMemory>
         ensures { IfOk result (λ server. server ≡ new_server config.now) }
     {
-        let shards = new_shards(alloc, config)?;
-        Ok(ServerBooks { shards })
-    }
-
-    /// The index of the shard of an account.
-    fn index_of(&self, account: u32) -> usize
-        ensures index { result ≡ account % length self.now }
-        ensures within { result < length self.now }
-    {
-        account as usize % self.shards.len()
+        let mut list = Vec::with_capacity(alloc, config.accounts() as usize)?;
+        for account in 0..config.accounts() {
+            list.push(Book::new(alloc, config.entry(account).rules)?)?;
+        }
+        Ok(ServerBooks { list })
     }
 
     /// Whether a move can be made: an own move has to be an ask, an alive or a stop of an account
@@ -101,7 +100,9 @@ impl ServerBooks {
         ensures { IsTrue result ↔ IsTakenIn self.now moved.now }
     {
         match moved {
-            Move::Own { account, .. } => self.shards[self.index_of(*account)].takes(moved),
+            Move::Own { account, event } => {
+                (*account as usize) < self.list.len() && is_of_one_account(&event.act)
+            }
             Move::Sweep { .. } | Move::Tick { .. } | Move::Stray { .. } => true,
         }
     }
@@ -140,8 +141,7 @@ impl ServerBooks {
         ensures books { self.new ≡ server_after self.old (moves.Own account event) }
         ensures decision { result ≡ decision_in self.old (moves.Own account event) }
     {
-        let index = self.index_of(account);
-        self.shards[index].own(account, event)
+        self.list[account as usize].apply(event)
     }
 
     /// Sweeps each book of what came `delay` seconds ago or earlier.
@@ -149,7 +149,7 @@ impl ServerBooks {
         ensures books { self.new ≡ server_after self.old (moves.Sweep moment nas.now delay) }
         ensures decision { result ≡ done }
     {
-        sweep_each(&mut self.shards, moment, nas, delay);
+        sweep_each(&mut self.list, moment, nas, delay);
         Decision::Done
     }
 
@@ -158,7 +158,7 @@ impl ServerBooks {
         ensures books { self.new ≡ server_after self.old (moves.Tick moment) }
         ensures decision { result ≡ done }
     {
-        tick_each(&mut self.shards, moment);
+        tick_each(&mut self.list, moment);
         Decision::Done
     }
 

@@ -3,7 +3,7 @@
 use crate::cause::cause_of;
 use crate::fault::Fault;
 use crate::files::{bad_file, state_of};
-use crate::lines::{bad_log, octets_of};
+use crate::lines::{fault_of, octets_of};
 use crate::wrong::Wrong;
 use rld_export::{Export, Form, Span, Wanted, read_moment};
 use rld_folder::{FileName, Generation};
@@ -13,6 +13,15 @@ use rsl_wire::NoMemory;
 use std::alloc::Global;
 use std::fs::{self, File, Files};
 use std::io::{ErrorKind, Write};
+
+/// The logs of a state folder and of its archive, from the oldest to the newest.
+#[derive(Drop)]
+struct Logs {
+    /// Those of a version before 0.4, each by its era and its number.
+    former: Vec<(u64, u64)>,
+    /// The others, by their numbers.
+    numbered: Vec<u64>,
+}
 
 /// The paths of a log: in the state folder, and in its archive.
 #[derive(Drop)]
@@ -25,10 +34,11 @@ struct LogPaths {
 /// those that ended, in the order in which that is found, and then those that are still held. The
 /// server may run meanwhile: nothing is locked, and nothing is changed.
 ///
-/// `Usage` comes if the words are none of the command's, before anything is read. A log that is
-/// removed before it is read is left out, and the torn end of another than the newest is said, both
-/// on standard error. A file that cannot be read is a `BadFile`, and a damaged one a `BadLog`: what
-/// comes before its first wrong place is printed.
+/// `Usage` comes if the words are none of the command's, before anything is read. A `BadLog` comes if
+/// a version before 0.4 gave a log its name, before any log is read. A log that is removed before it is
+/// read is left out; standard error says so, and the torn end of another log than the newest. A file
+/// that cannot be read is a `BadFile`, and a damaged one a `BadLog`: what comes before its first wrong
+/// place is printed.
 pub(crate) fn export<R, W: Write, S: Write>(
     rt: &R,
     alloc: Global,
@@ -45,15 +55,21 @@ where
     let wanted = wanted_of(alloc, given)?;
     let state = state_of(rt, alloc, name)?;
     let logs = logs_of(rt, alloc, state.as_str())?;
-    export_logs(
-        rt,
-        alloc,
-        state.as_str(),
-        logs.as_slice(),
-        wanted,
-        writer,
-        stderr,
-    )
+    check_former(alloc, state.as_str(), logs.former.as_slice())?;
+    let logs = logs.numbered.as_slice();
+    export_logs(rt, alloc, state.as_str(), logs, wanted, writer, stderr)
+}
+
+/// Checks that a state folder and its archive have no logs of a version before 0.4, whose sessions would
+/// be missing. `BadLog` of the oldest comes if there are some.
+fn check_former(alloc: Global, state: &str, logs: &[(u64, u64)]) -> Result<(), Fault> {
+    let Some(log) = logs.first() else {
+        return Ok(());
+    };
+    let (era, number) = *log;
+    let file = FileName::Log(Generation::Former { era, number });
+    let path = format!(in alloc; "{state}/{file}")?;
+    Err(fault_of(alloc, path.as_str(), LinesFault::former()))
 }
 
 /// Prints what is wanted of the logs of a state folder, from the oldest to the newest.
@@ -61,19 +77,19 @@ fn export_logs<F: Files, W: Write, S: Write>(
     files: &F,
     alloc: Global,
     state: &str,
-    logs: &[Generation],
+    logs: &[u64],
     wanted: Wanted,
     writer: &mut W,
     stderr: &mut S,
 ) -> Result<(), Fault> {
     let mut found = match Export::new(alloc, wanted, writer) {
         Ok(found) => found,
-        Err(fault) => return Err(fault_of(alloc, state, state, fault)?),
+        Err(fault) => return Err(fault_of(alloc, state, fault)),
     };
     read_logs(files, alloc, state, logs, &mut found, writer, stderr)?;
     match found.finish(alloc, writer) {
         Ok(()) => Ok(writer.flush()?),
-        Err(fault) => Err(fault_of(alloc, state, state, fault)?),
+        Err(fault) => Err(fault_of(alloc, state, fault)),
     }
 }
 
@@ -83,29 +99,19 @@ fn read_logs<F: Files, W: Write, S: Write>(
     files: &F,
     alloc: Global,
     state: &str,
-    logs: &[Generation],
+    logs: &[u64],
     found: &mut Export,
     writer: &mut W,
     stderr: &mut S,
 ) -> Result<(), Fault> {
-    for (at, generation) in logs.iter().enumerate() {
-        let torn = read_log(files, alloc, state, *generation, found, writer, stderr)?;
+    for (at, number) in logs.iter().enumerate() {
+        let name = FileName::Log(Generation::Numbered(*number)).text(alloc)?;
+        let name = name.as_str();
+        let torn = read_log(files, alloc, state, name, *number, found, writer, stderr)?;
         if torn > 0 && at + 1 < logs.len() {
-            say_torn(alloc, *generation, torn, stderr)?;
+            writeln!(stderr, "{name}: a torn end of {torn} octets")?;
         }
     }
-    Ok(())
-}
-
-/// Says how many octets the torn end of a log has.
-fn say_torn<S: Write>(
-    alloc: Global,
-    generation: Generation,
-    torn: usize,
-    stderr: &mut S,
-) -> Result<(), Fault> {
-    let file = FileName::Log(generation).text(alloc)?;
-    writeln!(stderr, "{file}: a torn end of {torn} octets")?;
     Ok(())
 }
 
@@ -144,29 +150,26 @@ fn unreadable<T>() -> Result<T, Fault> {
     Err(Fault::Usage(Misuse::Unreadable(Topic::Export)))
 }
 
-/// The generations of the logs of a state folder and of its archive, from the oldest to the newest.
-/// The archive is looked at last, so that a log which is moved there meanwhile is found.
-fn logs_of<R>(rt: &R, alloc: Global, state: &str) -> Result<Vec<Generation>, Fault>
+/// The logs of a state folder and of its archive. The archive is looked at last, so that a log which
+/// is moved there meanwhile is found.
+fn logs_of<R>(rt: &R, alloc: Global, state: &str) -> Result<Logs, Fault>
 where
     R: Files<File = File> + Alloc<A = Global> + Clone + Drop,
 {
-    let mut logs = Vec::new(alloc);
+    let mut logs = Logs {
+        former: Vec::new(alloc),
+        numbered: Vec::new(alloc),
+    };
     push_logs(rt, alloc, &mut logs, state)?;
     let archive = format!(in alloc; "{state}/archive")?;
     if is_there(rt, archive.as_str()) {
         push_logs(rt, alloc, &mut logs, archive.as_str())?;
     }
-    logs.sort_unstable();
-    let mut generations = Vec::new(alloc);
-    let mut last = None;
-    for log in logs {
-        if last != Some(log) {
-            let (era, number) = log;
-            push(&mut generations, Generation { era, number })?;
-        }
-        last = Some(log);
-    }
-    Ok(generations)
+    logs.former.sort_unstable();
+    logs.former.dedup();
+    logs.numbered.sort_unstable();
+    logs.numbered.dedup();
+    Ok(logs)
 }
 
 /// Adds a value to a list.
@@ -175,13 +178,8 @@ fn push<T: Drop>(list: &mut Vec<T>, value: T) -> Result<(), NoMemory> {
     Ok(())
 }
 
-/// Adds the eras and numbers of the logs of a folder.
-fn push_logs<R>(
-    rt: &R,
-    alloc: Global,
-    logs: &mut Vec<(u64, u64)>,
-    folder: &str,
-) -> Result<(), Fault>
+/// Adds the logs of a folder.
+fn push_logs<R>(rt: &R, alloc: Global, logs: &mut Logs, folder: &str) -> Result<(), Fault>
 where
     R: Files<File = File> + Alloc<A = Global> + Clone + Drop,
 {
@@ -194,11 +192,15 @@ where
     };
     for entry in entries {
         match entry {
-            Ok(entry) => {
-                if let Some(FileName::Log(found)) = FileName::read(alloc, entry.file_name())? {
-                    push(logs, (found.era, found.number))?;
+            Ok(entry) => match FileName::read(alloc, entry.file_name())? {
+                Some(FileName::Log(Generation::Numbered(number))) => {
+                    push(&mut logs.numbered, number)?;
                 }
-            }
+                Some(FileName::Log(Generation::Former { era, number })) => {
+                    push(&mut logs.former, (era, number))?;
+                }
+                _ => {}
+            },
             // A name that is not UTF-8 is not one of the server's.
             Err(error) if error.kind() == ErrorKind::InvalidFilename => {}
             Err(error) => {
@@ -218,59 +220,34 @@ fn is_there<F: Files>(files: &F, path: &str) -> bool {
     }
 }
 
-/// Reads a log, writes the sessions that ended in it, and gives the octets of its torn end.
+/// Reads a log of this name and number, writes the sessions that ended in it, and gives the octets
+/// of its torn end.
 fn read_log<F: Files, W: Write, S: Write>(
     files: &F,
     alloc: Global,
     state: &str,
-    generation: Generation,
+    name: &str,
+    generation: u64,
     found: &mut Export,
     writer: &mut W,
     stderr: &mut S,
 ) -> Result<usize, Fault> {
-    let file = FileName::Log(generation).text(alloc)?;
     let paths = LogPaths {
-        present: format!(in alloc; "{state}/{file}")?,
-        archived: format!(in alloc; "{state}/archive/{file}")?,
+        present: format!(in alloc; "{state}/{name}")?,
+        archived: format!(in alloc; "{state}/archive/{name}")?,
     };
     let Some(octets) = octets_of_log(files, alloc, &paths)? else {
-        writeln!(stderr, "{file}: it was removed before it was read")?;
+        writeln!(stderr, "{name}: it was removed before it was read")?;
         return Ok(0);
     };
     let log = LogFile {
-        name: file.as_str(),
+        name,
         generation,
         octets,
     };
-    read_octets(
-        files,
-        alloc,
-        state,
-        paths.present.as_str(),
-        log,
-        found,
-        writer,
-    )
-}
-
-/// Reads a log of this path, whose octets are there, and gives those of its torn end.
-fn read_octets<F: Files, W: Write>(
-    files: &F,
-    alloc: Global,
-    state: &str,
-    path: &str,
-    log: LogFile<'_>,
-    found: &mut Export,
-    writer: &mut W,
-) -> Result<usize, Fault> {
-    let era = {
-        let era = FileName::Era(log.generation.era).text(alloc)?;
-        format!(in alloc; "{state}/{era}")?
-    };
-    let table = octets_of(files, alloc, era.as_str())?;
-    match found.read(alloc, table.as_slice(), log, writer) {
+    match found.read(alloc, log, writer) {
         Ok(torn) => Ok(torn),
-        Err(fault) => Err(fault_of(alloc, era.as_str(), path, fault)?),
+        Err(fault) => Err(fault_of(alloc, paths.present.as_str(), fault)),
     }
 }
 
@@ -293,15 +270,5 @@ fn octets_of_log<F: Files>(
         Err(Fault::NoMemory) => Err(Fault::NoMemory),
         Err(_) if !is_there(files, paths.archived.as_str()) => Ok(None),
         Err(fault) => Err(fault),
-    }
-}
-
-/// The fault of a log, whose era's table has this path.
-fn fault_of(alloc: Global, era: &str, log: &str, fault: LinesFault) -> Result<Fault, Fault> {
-    match fault {
-        LinesFault::NoMemory => Ok(Fault::NoMemory),
-        LinesFault::Unwritten => Ok(Fault::InputOutput),
-        LinesFault::Table(wrong) => bad_log(alloc, era, wrong),
-        LinesFault::Log(wrong) => bad_log(alloc, log, wrong),
     }
 }

@@ -21,7 +21,7 @@ pub enum Fault {
     /// The server's file is wrong, or the account file that it names.
     #[error("{0}")]
     BadFile(BadFile),
-    /// A file of a state folder is damaged.
+    /// A log of a state folder is damaged.
     #[error("{0}")]
     BadLog(BadLog),
     /// The server does not start from its folder.

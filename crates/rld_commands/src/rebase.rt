@@ -7,8 +7,8 @@ use std::fs::{File, Files};
 use std::io::Write;
 use std::time::Clock;
 
-/// Begins a new era in the state folder of a server that is not running, with its books cut to the
-/// present, and writes a line on it.
+/// Begins a generation in the state folder of a server that is not running, with its books cut to
+/// the present, and writes a line on it.
 ///
 /// The faults come in this order: the clock, the server's file, the account file; then those of the
 /// folder and its files, as of a start. `Start` with `NoHistory` comes if the folder has none.

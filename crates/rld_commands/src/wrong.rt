@@ -73,11 +73,11 @@ impl fmt::Display for BadFile {
     }
 }
 
-/// A file of a state folder that is damaged. It prints as `bad log: state/log-1-2 at 40: damaged`.
+/// A log of a state folder that is damaged. It prints as `bad log: state/log-2 at 40: damaged`.
 #[derive(Debug, Drop, Error)]
 #[error("bad log: {name} {wrong}")]
 pub struct BadLog {
-    /// The name of the file.
+    /// The name of the log.
     pub name: String,
     /// The cause and the offset of its damage.
     pub wrong: start::Wrong,

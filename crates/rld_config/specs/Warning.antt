@@ -10,7 +10,7 @@ use Rattle.rsl_accounts.specs.declared.client.Client.{Client}
 use Rattle.rsl_accounts.specs.declared.entry.Entry.{Entry}
 use Rattle.rsl_accounts.specs.declared.rules.Rules.{Rules}
 use Rattle.rld_config.specs.declared.warning.Warning.{Warning}
-use Rattle.rld_config.specs.declared.warning.Warning.TheVariants.{NotSigned, Unsigned, ShortSecrets, UnsignedNetworks, Prefixed, OthersRead, Memory}
+use Rattle.rld_config.specs.declared.warning.Warning.TheVariants.{NotSigned, Unsigned, ShortSecrets, UnsignedNetworks, Prefixed, OthersRead, Shards, Memory}
 use Rattle.rld_networks.specs.declared.network.Network.{Network}
 use Rattle.rld_networks.specs.declared.prefix.Prefix.{Prefix}
 use Rattle.rld_config.specs.Server.{is_unsigned_at}
@@ -54,6 +54,10 @@ network_warnings networks = map (λ network. Prefixed network.prefix) networks
 abbrev pub mode_warning : (mode : ℕ) → List Warning
 mode_warning mode = if others_read mode then OthersRead ∷ [] else []
 
+-- that the number of shards, where it is over one, counts for nothing here
+abbrev pub shards_warning : (shards : ℕ) → List Warning
+shards_warning shards = if nat_lt 1 shards then Shards shards ∷ [] else []
+
 -- the octets of a book: 3,522 with one link, and 223 for each further one
 unfoldable pub book_octets : Rules → ℕ
 book_octets rules = 3299 + 223 * (rules.places * rules.ports)
@@ -66,10 +70,11 @@ books_octets (entry ∷ entries) = book_octets entry.rules + books_octets entrie
 abbrev pub megabytes : ℕ → ℕ
 megabytes octets = (octets + 999999) / 1000000
 
--- all warnings: of clients, of each network, of the file, of its accounts
+-- all warnings: of clients, of each network, of the file, of its shards, of its accounts
 unfoldable pub warnings_of : Configuration → List Network → (mode : ℕ) → List Warning
 warnings_of config networks mode =
     client_warnings (unsigned_rule config.settings.version) config networks
     ++ network_warnings networks
     ++ mode_warning mode
+    ++ shards_warning config.settings.shards
     ++ Memory (megabytes (books_octets config.accounts)) ∷ []

@@ -15,6 +15,7 @@ ghost use Rattle.rld_config.specs.Warning.{
   megabytes,
   mode_warning,
   network_warnings,
+  shards_warning,
   short_secret,
   unsigned_address,
   unsigned_prefix,
@@ -58,6 +59,8 @@ pub enum Warning {
     Prefixed(Prefix),
     /// Everybody can read the account file.
     OthersRead,
+    /// The account file says `shards`, which counts for `radlimit` alone.
+    Shards(u64),
     /// The memory of the accounts' books, in megabytes, rounded up.
     Memory(u64),
 }
@@ -86,6 +89,9 @@ impl fmt::Display for Warning {
                 "network {prefix}: access servers without NAS-Identifier and NAS-IP-Address count as one"
             ),
             Warning::OthersRead => f.write_str("accounts: everybody can read the file"),
+            Warning::Shards(shards) => {
+                write!(f, "accounts: radlimitd passes over `shards = {shards}`")
+            }
             Warning::Memory(megabytes) => {
                 write!(f, "accounts: their places take {megabytes} MB of memory")
             }
@@ -95,8 +101,8 @@ impl fmt::Display for Warning {
 
 /// The remarks on a right account file of this mode, and on the networks of the server's file: of
 /// version 3 each client that need not sign, in the file's order, and of another version what
-/// version 3 would do better; each network; whether everybody can read the account file; and the
-/// memory of its books. It fails only if memory is refused.
+/// version 3 would do better; each network; whether everybody can read the account file; more than
+/// one shard; and the memory of its books. It fails only if memory is refused.
 #[tactic(auto, unfolding(crate::specs::Warning::warnings_of))]
 pub fn warnings(
     alloc: Global,
@@ -109,6 +115,7 @@ pub fn warnings(
     let mut warnings = client_warnings(alloc, config, networks)?;
     warn_of_networks(networks, &mut warnings)?;
     warn_of_mode(mode, &mut warnings)?;
+    warn_of_shards(config, &mut warnings)?;
     warnings.push(Warning::Memory(megabytes(books_octets(config))))?;
     Ok(warnings)
 }
@@ -256,6 +263,18 @@ fn warn_of_mode(mode: u32, warnings: &mut Vec<Warning>) -> Result<(), NoMemory>
 {
     if others_read(mode) {
         warnings.push(Warning::OthersRead)?;
+    }
+    Ok(())
+}
+
+/// Adds that the number of shards counts for nothing, if it is over one.
+fn warn_of_shards(config: &Config, warnings: &mut Vec<Warning>) -> Result<(), NoMemory>
+    ensures { OnOk result (warnings.new.items
+        ≡ warnings.old.items ++ shards_warning config.now.settings.shards) }
+{
+    let shards = config.shards();
+    if shards > 1 {
+        warnings.push(Warning::Shards(u64::from(shards)))?;
     }
     Ok(())
 }

@@ -5,8 +5,7 @@ use Rattle.rld_counts.specs.Laws.{AcctSays, AskSays, AuthSays, CausesAreTold, is
 use Rattle.rld_counts.specs.declared.cause.Cause.{Cause}
 use Rattle.rld_counts.specs.declared.cause.Cause.TheVariants as causes
 use Rattle.rld_counts.specs.declared.gate.Gate.TheVariants as gates
-use Rattle.rld_turn.specs.Present.{ServiceSeen}
-use Rattle.rld_turn.specs.declared.peer_port.PeerDatagram.{PeerDatagram}
+use Rattle.rld_turn.specs.Present.{PeerDatagram, ServiceSeen}
 
 auth_told : (service : ServiceSeen) (one : PeerDatagram) (cause : Cause) → AuthSays service one cause
     → is_among cause (causes_at gates.Auth) ≡ true

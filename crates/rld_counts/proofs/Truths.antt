@@ -21,9 +21,8 @@ use Rattle.rsl_event.specs.declared.status.Status.{Status}
 use Rattle.rsl_event.specs.declared.status.Status.TheVariants as statuses
 use Rattle.rsl_event.specs.declared.words.Said.{Said}
 use Rattle.rsl_event.specs.declared.words.Said.TheVariants as words
-use Rattle.rsl_shard.specs.Restep.{BooksSeen}
 use Rattle.rsl_shard.specs.declared.moved.Move.{Move}
-use Rattle.rld_books.specs.Server.{replay}
+use Rattle.rld_books.specs.Server.{ServerSeen, replay}
 use Rattle.rld_counts.proofs.Meaning.{IsAccess, OfAcct, OfAuth, acct_meaning, auth_meaning, is_acct_drop, is_auth_drop}
 use Rattle.rld_counts.specs.Ending.{account_cause, answer_cause, ask_cause, cause_of, drop_cause, fate_of, is_nobody, reject_cause, status_in}
 use Rattle.rld_counts.specs.Fates.{port_of}
@@ -33,13 +32,12 @@ use Rattle.rld_counts.specs.declared.cause.Cause.TheVariants as causes
 use Rattle.rld_counts.specs.declared.gate.Gate.{Gate}
 use Rattle.rld_counts.specs.declared.gate.Gate.TheVariants as gates
 use Rattle.rld_turn.specs.Moves.{decided}
-use Rattle.rld_turn.specs.Present.{ServiceSeen, meaning_of, source_of}
+use Rattle.rld_turn.specs.Present.{PeerDatagram, ServiceSeen, meaning_of, source_of}
 use Rattle.rld_turn.specs.Subject.{subject_in}
 use Rattle.rld_turn.specs.Told.{IsSentAs, Told}
 use Rattle.rld_turn.specs.Turned.{Turned, bare_told, request_told, NoneYet, ThenDropped, ThenRefused, ThenUnrecorded, ThenBare, ThenAnswered}
 use Rattle.rld_turn.specs.declared.end.End.{End}
 use Rattle.rld_turn.specs.declared.end.End.TheVariants as ends
-use Rattle.rld_turn.specs.declared.peer_port.PeerDatagram.{PeerDatagram}
 use Rattle.rld_turn.specs.declared.subject.Subject.{Subject}
 
 -- ---- drops
@@ -259,7 +257,7 @@ one_more service gate (two ∷ told) [] new one have says = absurd have
 one_more service gate (two ∷ told) (first ∷ taken) new one (says_first, have) says =
     (says_first, one_more service gate told taken new one have says)
 
-pub have_fates : CausesAreOfRejects → (service : ServiceSeen) (gate : Gate) (moment : ℕ) (recorded : Bool) (begun : List BooksSeen)
+pub have_fates : CausesAreOfRejects → (service : ServiceSeen) (gate : Gate) (moment : ℕ) (recorded : Bool) (begun : ServerSeen)
     (told : List Told) (taken : List PeerDatagram) (batch : List Move) (sent : List PeerDatagram)
     → Turned service (port_of gate) moment recorded begun told taken batch sent → HaveFates service gate told taken
 have_fates law service gate moment recorded begun told taken batch sent NoneYet = tt

@@ -17,7 +17,7 @@ use Rattle.rsl_event.specs.declared.meaning.Port.TheVariants as ports
 use Rattle.rsl_event.specs.declared.nas.Nas.{Nas}
 use Rattle.rsl_event.specs.declared.status.Status.{Status}
 use Rattle.rsl_event.specs.declared.status.Status.TheVariants as statuses
-use Rattle.rsl_shard.specs.Restep.{BooksSeen}
+use Rattle.rld_books.specs.Server.{ServerSeen}
 use Rattle.rsl_shard.specs.declared.moved.Move.{Move}
 use Rattle.rld_counts.specs.Ending.{fate_of, is_nobody, status_in}
 use Rattle.rld_counts.specs.Fates.{causes_at, number_of, port_of}
@@ -27,10 +27,9 @@ use Rattle.rld_counts.specs.declared.fate.Fate.{Fate}
 use Rattle.rld_counts.specs.declared.gate.Gate.{Gate}
 use Rattle.rld_counts.specs.declared.gate.Gate.TheVariants as gates
 use Rattle.rld_turn.specs.Told.{Told}
-use Rattle.rld_turn.specs.Present.{ServiceSeen, meaning_of, source_of}
+use Rattle.rld_turn.specs.Present.{PeerDatagram, ServiceSeen, meaning_of, source_of}
 use Rattle.rld_turn.specs.Subject.{subject_in}
 use Rattle.rld_turn.specs.Turned.{Turned}
-use Rattle.rld_turn.specs.declared.peer_port.PeerDatagram.{PeerDatagram}
 
 -- a datagram has no meaning at a port, for this cause
 abbrev pub IsDroppedBy : ServiceSeen → Port → PeerDatagram → Dropped → Type 0
@@ -161,7 +160,7 @@ HaveFates service gate _ _ = ⊥
 -- that holds for the datagrams of each turn
 abbrev pub FatesAreTrue : Type 0
 FatesAreTrue =
-    (service : ServiceSeen) (gate : Gate) (moment : ℕ) (recorded : Bool) (begun : List BooksSeen)
+    (service : ServiceSeen) (gate : Gate) (moment : ℕ) (recorded : Bool) (begun : ServerSeen)
     (told : List Told) (taken : List PeerDatagram) (batch : List Move) (sent : List PeerDatagram)
     → Turned service (port_of gate) moment recorded begun told taken batch sent
     → HaveFates service gate told taken

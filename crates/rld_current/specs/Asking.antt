@@ -7,13 +7,12 @@ use Rattle.rld_ask.specs.declared.form.AskForm.{AskForm}
 use Rattle.rld_ask.specs.declared.outcome.Outcome.{Outcome}
 use Rattle.rld_networks.specs.declared.network.Network.{Network}
 use Rattle.rld_store.specs.Recorded.{RecordedSeen}
-use Rattle.rld_turn.specs.Present.{ServiceSeen}
+use Rattle.rld_turn.specs.Present.{PeerDatagram, ServiceSeen}
 use Rattle.rld_turn.specs.Recorded.{IsOf, books_before, is_recorded}
 use Rattle.rld_turn.specs.Told.{Told}
 use Rattle.rld_turn.specs.Turned.{Turned}
 use Rattle.rld_turn.specs.declared.end.End.{End}
 use Rattle.rld_turn.specs.declared.end.End.TheVariants.{Answered, Unsent}
-use Rattle.rld_turn.specs.declared.peer_port.PeerDatagram.{PeerDatagram}
 use Rattle.rsl_accounts.specs.Configuration.{Configuration}
 use Rattle.rsl_event.specs.declared.meaning.Port.TheVariants.{Auth}
 use Rattle.rsl_event.specs.declared.words.Said.{Said}
@@ -66,9 +65,9 @@ abbrev pub AreAnswers : List Noted → (replies : List PeerDatagram) → List An
 AreAnswers noted replies answers = (answers ≡ []) ⊎ (map told_in answers ≡ answers_told noted replies)
 
 -- Answers to the first of these asks, in their order, which come from this client: their requests were taken in one
--- turn with these accounts, networks and boot number, which was recorded in this era or not at all. This is kept of how
+-- turn with these accounts, networks and boot number, which was recorded in this table or not at all. This is kept of how
 -- they ended. Each answer says how its own request ended, with its own reply.
-pub record AreAnswersTo (config : Configuration) (networks : List Network) (boot era : ℕ) (client : List ℕ)
+pub record AreAnswersTo (config : Configuration) (networks : List Network) (boot table : ℕ) (client : List ℕ)
     (noted : List Noted) (asks : List AskForm) (answers : List Answer) : Type 0 where
   pub service : ServiceSeen
   pub requests : List (List ℕ)
@@ -81,7 +80,7 @@ pub record AreAnswersTo (config : Configuration) (networks : List Network) (boot
   pub served : IsServiceOf config networks boot service
   pub of_asks : AreRequests config client asks requests
   pub of_client : IsPeerOf client peer
-  pub of_era : IfSome recorded (λ one. one.era ≡ era)
+  pub of_table : IfSome recorded (λ one. one.table ≡ table)
   pub whole : IsOf batch recorded
   pub turned : Turned service Auth moment (is_recorded recorded) (books_before recorded)
       told (datagrams_of peer requests) batch replies
@@ -93,5 +92,5 @@ pub record AreAnswered (networks : List Network) (client : List ℕ) (noted : Li
     (answers : List Answer) : Type 0 where
   pub config : Configuration
   pub boot : ℕ
-  pub era : ℕ
-  pub are : (answers ≡ []) ⊎ AreAnswersTo config networks boot era client noted asks answers
+  pub table : ℕ
+  pub are : (answers ≡ []) ⊎ AreAnswersTo config networks boot table client noted asks answers

@@ -5,10 +5,10 @@ use Rattle.std.specs.Net.Socket.{socket_ip, socket_port}
 use Rattle.std.specs.declared.net.ip_addr.IpAddr.TheVariants.{V4}
 use Rattle.std.specs.declared.net.ipv4_addr.Ipv4Addr.{Ipv4Addr}
 use Rattle.std.specs.declared.net.socket_addr.SocketAddr.{SocketAddr}
+use Rattle.rsl_port.specs.Told.{datagram_of}
 use Rattle.rld_ask.specs.Request.{ask_octets}
 use Rattle.rld_ask.specs.declared.form.AskForm.{AskForm}
-use Rattle.rld_turn.specs.Present.{peer_datagram}
-use Rattle.rld_turn.specs.declared.peer_port.PeerDatagram.{PeerDatagram}
+use Rattle.rld_turn.specs.Present.{PeerDatagram}
 use Rattle.rsl_accounts.specs.Configuration.{Configuration, client_number}
 
 -- the requests of the first of these asks, in their order, as a client with this secret would have sent them
@@ -31,4 +31,4 @@ pub record IsPeerOf (client : List ℕ) (peer : SocketAddr) : Type 0 where
 
 -- requests, as the datagrams of a peer
 abbrev pub datagrams_of : SocketAddr → (requests : List (List ℕ)) → List PeerDatagram
-datagrams_of peer requests = map (λ (request : List ℕ). peer_datagram peer request) requests
+datagrams_of peer requests = map (λ (request : List ℕ). datagram_of peer request) requests

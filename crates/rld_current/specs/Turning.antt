@@ -22,14 +22,14 @@ pub record IsServiceOf (config : Configuration) (networks : List Network) (boot 
   pub boot_is : service.boot ≡ boot
   pub nobody_is : client_number config service.nobody ≡ None
 
--- a turn with these accounts, networks and boot number, which is recorded in this era or not at all
-pub record HasTurnedWith (config : Configuration) (networks : List Network) (boot era : ℕ) (port : Port)
+-- a turn with these accounts, networks and boot number, which is recorded in this table or not at all
+pub record HasTurnedWith (config : Configuration) (networks : List Network) (boot table : ℕ) (port : Port)
     (Tells : Type 0) (recorded : Option RecordedSeen) (old new : State)
     (knew knows : List Told → Type 0) : Type 0 where
   pub service : ServiceSeen
   pub served : IsServiceOf config networks boot service
   pub decided : IsDecidedBy service port Tells recorded old new knew knows
-  pub of_era : IfSome recorded (λ one. one.era ≡ era)
+  pub of_table : IfSome recorded (λ one. one.table ≡ table)
 
 -- the fault of a worker whose turn ended so: another turn follows unless the port failed, or nothing more can be
 -- recorded

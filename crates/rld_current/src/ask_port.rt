@@ -1,11 +1,11 @@
 ghost use Rattle.std.specs.Prelude.{◌≡◌, ◌≤◌, ◌++◌, ◌∷◌, ◌<◌, [], length, map, slice_get, take, true, IfOk, IfSome, OnOk};
+ghost use Rattle.rsl_port.specs.Told.{datagram_of};
 ghost use Rattle.rld_current.specs.Requests.{AreFirst, AreRequests, IsPeerOf, datagrams_of};
-ghost use Rattle.rld_turn.specs.Present.{peer_datagram};
 
 use rld_ask::AskForm;
-use rld_turn::{PeerDatagram, PeerPort};
+use rld_turn::PeerDatagram;
 use rsl_accounts::Config;
-use rsl_port::PortFault;
+use rsl_port::{DatagramPort, PortFault};
 use rsl_wire::Octets;
 use std::alloc::{AllocError, Global};
 use std::collections::VecDeque;
@@ -76,7 +76,7 @@ impl AskPort {
         ensures same { (self.new.requests ≡ self.old.requests) × (self.new.next ≡ self.old.next)
             × (self.new.peer ≡ self.old.peer) × (self.new.is_whole ≡ self.old.is_whole) }
         ensures kept { OnOk result (self.new.replies.items
-            ≡ self.old.replies.items ++ peer_datagram peer octets.now ∷ []) }
+            ≡ self.old.replies.items ++ datagram_of peer octets.now ∷ []) }
     {
         let Ok(octets) = Octets::from_slice(self.alloc, octets) else {
             return Err(PortFault);
@@ -120,7 +120,7 @@ fn put(request: &[u8], buffer: &mut [u8])
     buffer[..request.len()].copy_from_slice(request);
 }
 
-impl PeerPort for AskPort {
+impl DatagramPort<SocketAddr> for AskPort {
     ghost tells = { λ port. port.is_whole };
 
     ghost contents = { λ port. datagrams_of port.peer (map (λ request. request.items) port.requests.items) };

@@ -1,19 +1,18 @@
 ghost use Rattle.std.specs.Prelude.{◌≡◌};
 ghost use Rattle.std.specs.Arc.{arc_value};
-ghost use Rattle.rld_state.specs.Headers.{IsHeaderOf};
+ghost use Rattle.rld_store.specs.Generations.{octets_of};
 
 use rld_edges::StatusService;
 use rld_log::Log;
 use rld_networks::Network;
-use rld_spelling::Header;
 use rld_state::ServerState;
 use rld_turn::Present;
 use rsl_accounts::Config;
 use rsl_event::Port;
 use std::sync::Arc;
 
-/// The present accounts, clients and rules of a server, the boot number of its Classes, and the
-/// header with which their era goes on: it has the digest of their table under this boot number.
+/// The present accounts, clients and rules of a server, the boot number of its Classes, and the number
+/// of their table.
 ///
 /// A receiver holds a read guard on it for a turn, and so does a look at the server, so that all of
 /// it is of the same accounts. A reload changes it under a write guard. Only a state makes one.
@@ -22,8 +21,7 @@ pub struct Current {
     /// The accounts, the clients and the rules.
     pub config: Arc<Config>,
     boot: u64,
-    header: Header,
-    ghost table: { IsHeaderOf boot (arc_value config) header },
+    table: u64,
 }
 
 impl Current {
@@ -31,13 +29,14 @@ impl Current {
     pub fn of<L: Log + Drop>(state: &ServerState<L>, config: Arc<Config>) -> Current
         requires { arc_value config ≡ arc_value state.now.config }
         ensures config { result.config ≡ config }
-        ensures boot { result.boot ≡ state.now.boot }
-        ensures header { result.header ≡ state.now.recorder.header }
+        ensures boot { result.boot ≡ state.now.recorder.header.boot }
+        ensures table { result.table ≡ state.now.recorder.header.table }
+        ensures octets { state.now.recorder.table.items ≡ octets_of (arc_value result.config) }
     {
         Current {
             config,
             boot: state.boot(),
-            header: state.header(),
+            table: state.table(),
         }
     }
 
@@ -46,9 +45,9 @@ impl Current {
         ensures config { result.config.now ≡ arc_value self.now.config }
         ensures networks { result.networks.now ≡ networks.now }
         ensures boot { result.boot ≡ self.now.boot }
-        ensures era { result.era ≡ self.now.header.era }
+        ensures table { result.table ≡ self.now.table }
     {
-        Present::new(&*self.config, networks, self.boot, self.header.era)
+        Present::new(&*self.config, networks, self.boot, self.table)
     }
 
     /// What answers the Status-Server packets of a port.

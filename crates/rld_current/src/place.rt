@@ -77,7 +77,7 @@ impl<'s, R: Wait + time::Clock> AskPlace<'s, R> {
         ensures fault { IfErr result IsFaultOfTurn }
         ensures answered { IfOk result (λ answers. (answers.items ≡ [])
             ⊎ AreAnswersTo (arc_value current.now.config) shared.now.networks.now
-            current.now.boot current.now.header.era self.old.client
+            current.now.boot current.now.table self.old.client
             (noted_if self.new.watch.is_whole self.new.watch.noted.items) asks.now answers.items) }
     {
         self.watch.forget();
@@ -97,7 +97,7 @@ impl<'s, R: Wait + time::Clock> AskPlace<'s, R> {
         ensures fault { IfErr result IsFaultOfTurn }
         ensures answered { IfOk result (λ answers. (answers.items ≡ [])
             ⊎ AreAnswersTo (arc_value current.now.config) shared.now.networks.now
-            current.now.boot current.now.header.era self.old.client
+            current.now.boot current.now.table self.old.client
             (noted_if self.new.watch.is_whole self.new.watch.noted.items) asks.now answers.items) }
     {
         let alloc = shared.alloc;

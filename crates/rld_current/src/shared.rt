@@ -15,10 +15,11 @@ use rld_log::Log;
 use rld_networks::Network;
 use rld_state::ServerState;
 use rld_store::{RecordFault, Recorded};
-use rld_turn::{Gathered, PeerPort, Receiver, Watch};
-use rsl_port::{Clock, PortFault};
+use rld_turn::{Gathered, Receiver, Watch};
+use rsl_port::{Clock, DatagramPort, PortFault};
 use rsl_shard::Move;
 use std::alloc::Global;
+use std::net::SocketAddr;
 use std::sync::{Mutex, Wait};
 
 /// What turns of a server share.
@@ -61,11 +62,11 @@ impl<L: Log + Drop, R: Wait> Shared<'_, L, R> {
     /// Takes a turn with what is present: takes what waits at a port, at most 64 datagrams of up to 4,096 octets,
     /// records their moves, and sends the answers to their peers (RFC 2865 section 3, RFC 2866 section 3).
     ///
-    /// The moves are recorded as one batch, at the moment that the clock shows when the turn begins, and in the era
+    /// The moves are recorded as one batch, at the moment that the clock shows when the turn begins, and with the table
     /// that is present, or not at all. Each datagram is then answered, in the order in which they were taken; one
     /// with a move only if the batch was recorded. If an answer cannot be sent, what was recorded stands. `watch`
     /// notes first that the turn begins, then, in that order, how each datagram ended, and last that the turn is over.
-    pub fn turn<P: PeerPort, C: Clock, W: Watch>(
+    pub fn turn<P: DatagramPort<SocketAddr>, C: Clock, W: Watch>(
         &self,
         current: &Current,
         receiver: &mut Receiver,
@@ -77,7 +78,7 @@ impl<L: Log + Drop, R: Wait> Shared<'_, L, R> {
         ensures begun { HasBegun (W.turns watch.old) (W.turns watch.new) }
         ensures contents { P.contents datagrams.new ≡ P.contents datagrams.old }
         ensures turned { HasTurnedWith (arc_value current.now.config) self.now.networks.now
-            current.now.boot current.now.header.era receiver.old.port
+            current.now.boot current.now.table receiver.old.port
             (P.tells datagrams.new ≡ true) (recorded_in result.recorded)
             (state_of (P.taken datagrams.old) (P.sent datagrams.old) (C.shown clock.old))
             (state_of (P.taken datagrams.new) (P.sent datagrams.new) (C.shown clock.new))
@@ -88,30 +89,30 @@ impl<L: Log + Drop, R: Wait> Shared<'_, L, R> {
         watch.begin();
         let moment = clock.now();
         let Gathered { moves, port } = receiver.gather(&present, moment, datagrams);
-        let recorded = self.record(present.era, moves);
+        let recorded = self.record(present.table, moves);
         receiver.answer(&present, &recorded, datagrams, watch);
         watch.finish();
         Turn { port, recorded }
     }
 
-    /// Records these moves as one batch of an era, if there is one.
-    fn record(&self, era: u64, moves: Vec<Move>) -> Result<Option<Recorded>, RecordFault>
+    /// Records these moves as one batch of the accounts of this table, if there is one.
+    fn record(&self, table: u64, moves: Vec<Move>) -> Result<Option<Recorded>, RecordFault>
         ensures count { HasCount (decisions_in result) moves.items }
         ensures batch { IsOf moves.items (recorded_in result) }
-        ensures era { IfSome (recorded_in result) (λ recorded. recorded.era ≡ era) }
+        ensures table { IfSome (recorded_in result) (λ recorded. recorded.table ≡ table) }
     {
         if moves.is_empty() {
             return Ok(None);
         }
         let alloc = self.alloc;
-        match self.state.lock(self.rt).record(alloc, Some(era), moves) {
+        match self.state.lock(self.rt).record(alloc, Some(table), moves) {
             Ok(recorded) => Ok(Some(recorded)),
             Err(fault) => Err(fault),
         }
     }
 
     /// Records a tick of this moment, as a batch of its own, which ends what has lapsed. It names no account, and is
-    /// recorded in whatever era goes on.
+    /// recorded whatever table is present.
     ///
     /// `Failed` comes if it was not recorded or memory is refused, and `Ended` if nothing more can be recorded. Then
     /// the books are as they were.

@@ -1,8 +1,7 @@
 ghost use Rattle.std.specs.Prelude.{◌≤◌, IfOk, IfSome};
 
 use crate::status_service::StatusService;
-use rld_turn::PeerPort;
-use rsl_port::{PortFault, reception};
+use rsl_port::{DatagramPort, PortFault, reception};
 use std::alloc::Global;
 use std::io;
 use std::net::{SocketAddr, UdpSocket};
@@ -71,7 +70,7 @@ fn arrival(
     }
 }
 
-impl PeerPort for SocketPort<'_> {
+impl DatagramPort<SocketAddr> for SocketPort<'_> {
     /// Takes a datagram, if there is one. After a Status-Server packet it gives none, but more may
     /// be there.
     fn receive(&mut self, buffer: &mut [u8]) -> Result<Option<(usize, SocketAddr)>, PortFault> {

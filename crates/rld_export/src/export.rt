@@ -5,7 +5,7 @@ use crate::form::Form;
 use crate::line::push_line;
 use crate::record::push_columns;
 use crate::span::Span;
-use rld_lines::{Begun, LinesFault, LogFile, config_of, frames_of, front_of};
+use rld_lines::{Begun, LinesFault, LogFile, frames_of, front_of};
 use rld_store::{Part, counts_in};
 use rsl_accounts::Config;
 use std::alloc::Global;
@@ -90,21 +90,19 @@ impl Export {
         Ok(Export { wanted, last: None })
     }
 
-    /// Reads the next log, of an era whose file is `table`, writes the sessions that ended in it,
-    /// and gives the octets of its torn end. A log whose generation was not begun is passed over.
+    /// Reads the next log, writes the sessions that ended in it, and gives the octets of its torn
+    /// end. A log whose generation was not begun is passed over.
     ///
     /// The faults are those of `write_lines`; the lines of the batches before a fault are written.
     pub fn read<W: Write>(
         &mut self,
         alloc: Global,
-        table: &[u8],
         log: LogFile<'_>,
         writer: &mut W,
     ) -> Result<usize, LinesFault> {
-        let config = config_of(alloc, table)?;
         let frames = frames_of(log.octets)?;
         let payloads = frames.payloads(alloc)?;
-        if let Some(begun) = front_of(&payloads, log.generation, table)? {
+        if let Some((config, begun)) = front_of(alloc, &payloads, log.generation)? {
             let mut following = self.begin(alloc, config, begun, writer)?;
             let Begun { parts, .. } = begun;
             following.follow(

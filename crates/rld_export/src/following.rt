@@ -32,7 +32,7 @@ pub(crate) struct Ends {
 /// lapsed at a tick is found to have lapsed when its account is looked at next.
 #[derive(Drop)]
 pub(crate) struct Following {
-    /// The configuration of the era.
+    /// The configuration of the generation.
     pub(crate) config: Config,
     /// The greatest moment that was seen.
     pub(crate) latest: u64,

@@ -1,14 +1,15 @@
 -- Names that begin with a text and end with numbers.
-use Rattle.std.proofs.Common.{◌≡◌, ◌≢◌, ℕ, suc, zero, ◌<◌, ◌^◌, ◌++◌, List, [], ◌∷◌, length, drop, get_or, Bor, Option, None, Some, Result, ap, sym, ◌∙◌, arith}
+use Rattle.std.proofs.Common.{◌≡◌, ◌≢◌, ℕ, suc, zero, ◌<◌, ◌^◌, ◌++◌, List, [], ◌∷◌, length, drop, get_or, Bor, Option, None, Some, Result, refl, ap, sym, ◌∙◌, arith}
 use Rattle.std.specs.Option.{MatchOption}
 use Rattle.std.specs.Result.{result_ok}
 use Rattle.std.specs.Str.Pattern.{FindsTextPrefix, StripsPrefix}
 use Rattle.std.specs.Str.Parse.{AllDigits, ParsesUnsigned}
 use Rattle.std.specs.Fmt.{decimal}
 use Rattle.std.proofs.lemmas.Fmt.{decimal_is_IsNumeral, parse-decimal}
+use Rattle.std.proofs.lemmas.List.{length-append}
 use Rattle.std.proofs.lemmas.Str.Parse.{digit_from_value}
-use Rattle.std.proofs.lemmas.Str.Pattern.{IsSplitOnceResult, split_after}
-use lib.Seq.{drop_at}
+use Rattle.std.proofs.lemmas.Str.Pattern.{IsSplitOnceResult, split_after, split_parts}
+use lib.Seq.{drop_at, get_or-append_seam}
 
 -- what is left of a text behind its beginning
 pub stripped : (p s rest : List ℕ) (r : Option (Bor (List ℕ)))
@@ -30,7 +31,17 @@ numbers_split era number bs r h fits e =
     split_after 45 bs (decimal era) (decimal number) r h (omega arith) e
     (no_minus (decimal era) (decimal_is_IsNumeral era fits).0.1)
 
--- a number is what its own text writes
+-- no minus stands in a number alone
+pub number_alone : (number : ℕ) (bs : List ℕ) (r : Option (Bor (List ℕ) × Bor (List ℕ)))
+    → IsSplitOnceResult 45 bs r → number < 2 ^ 64 → bs ≡ decimal number → r ≡ None
+number_alone number bs None h fits e = refl
+number_alone number bs (Some x) h fits e =
+    let parts = split_parts 45 bs (Some x) h (omega arith) in
+    let whole = sym e ∙ parts.0 in
+    absurd (no_minus (decimal number) (decimal_is_IsNumeral number fits).0.1 (length x.0.now)
+    (omega (arith, ap length whole, length-append x.0.now (45 ∷ x.1.now)))
+    (ap (λ l. get_or l (length x.0.now) 0) whole ∙ get_or-append_seam x.0.now 45 x.1.now 0))
+
 -- what is left behind a beginning that stands there
 pub begun : (p s : List ℕ) (r : Option (Bor (List ℕ)))
     → MatchOption r (FindsTextPrefix p s None) (λ x. StripsPrefix (FindsTextPrefix p) s x.now)
@@ -38,6 +49,7 @@ pub begun : (p s : List ℕ) (r : Option (Bor (List ℕ)))
 begun p s None h x e = absurd (grind (arith, e))
 begun p s (Some y) h x e = (drop h.0 s, h.1.1)
 
+-- a number is what its own text writes
 pub number_parsed : {E : Type 0} (bs : List ℕ) (r : Result ℕ E) → ParsesUnsigned 64 10 bs r
     → (number : ℕ) → number < 2 ^ 64 → bs ≡ decimal number → result_ok r ≡ Some number
 number_parsed bs r h number small e = ap result_ok (parse-decimal 64 number bs r small small e h)

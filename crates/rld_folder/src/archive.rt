@@ -1,8 +1,9 @@
-//! The logs that no start needs any more: they are moved to the folder `archive` beside the others,
-//! or removed, and so are the tables of eras without a log.
+//! The files that no start needs any more: they are moved to the folder `archive` beside the others,
+//! or removed.
 
-ghost use Rattle.std.specs.Prelude.{◌≡◌, ◌<◌, All, IfOk};
-ghost use Rattle.rld_folder.specs.Newest.{Precedes};
+ghost use Rattle.std.specs.Prelude.{◌≡◌, All, IfOk};
+ghost use Rattle.rld_folder.specs.Older.{IsOlder};
+ghost use Rattle.rld_folder.specs.declared.name.Generation.TheVariants.{Numbered};
 
 use crate::fault::FolderFault;
 use crate::folder::{Folder, files_among, make_folder, path_in, sync_names};
@@ -20,14 +21,14 @@ use std::time::UNIX_EPOCH;
 /// `Folder::sync_log` makes one.
 #[derive(Drop)]
 pub struct Synced {
-    generation: Generation,
+    generation: u64,
 }
 
 /// Proof that the log of a generation was removed, and the names of the folder synced. Only
 /// `Folder::remove_log` gives one.
 #[derive(Drop)]
 pub struct Removed {
-    generation: Generation,
+    generation: u64,
 }
 
 /// Which logs have left an archive for a disk without room: its oldest ones.
@@ -45,8 +46,8 @@ impl fmt::Display for RoomMade {
         let RoomMade { logs, newest } = self;
         write!(
             f,
-            "no room on the disk: oldest logs removed from the archive: {logs}, up to log-{}-{}",
-            newest.era, newest.number
+            "no room on the disk: oldest logs removed from the archive: {logs}, up to {}",
+            FileName::Log(*newest)
         )
     }
 }
@@ -122,11 +123,11 @@ impl Folder {
         &self,
         files: &R,
         alloc: Global,
-        generation: Generation,
+        generation: u64,
     ) -> Result<Synced, FolderFault>
         ensures { IfOk result (λ synced. synced.generation ≡ generation) }
     {
-        let path = self.path_of(alloc, FileName::Log(generation))?;
+        let path = self.path_of(alloc, FileName::Log(Generation::Numbered(generation)))?;
         let file = match File::open(files, path.as_str()) {
             Ok(file) => file,
             Err(error) => return Err(FolderFault::of(&error, FolderFault::Unopened)),
@@ -155,111 +156,93 @@ impl Folder {
         &self,
         files: &R,
         alloc: Global,
-        generation: Generation,
+        generation: u64,
     ) -> Result<Removed, FolderFault>
         ensures { IfOk result (λ removed. removed.generation ≡ generation) }
     {
-        let path = self.path_of(alloc, FileName::Log(generation))?;
-        remove_file(files, path.as_str())?;
+        self.remove_named(
+            files,
+            alloc,
+            FileName::Log(Generation::Numbered(generation)),
+        )?;
         self.sync(files)?;
         Ok(Removed { generation })
     }
 
-    /// Removes logs before a generation whose log is on the disk. After a fault of one the others
-    /// are removed all the same, and the first fault is given, as of `remove_log`.
-    pub fn remove_logs<R: Files<File = File>>(
+    /// Removes files that are older than a generation whose log is on the disk, and then syncs the
+    /// names. After a fault of one the others are removed all the same, and the first fault is given:
+    /// `Unremoved` if a file is missing or cannot be removed. After `Unsynced` they are gone, but a
+    /// loss of power may bring them back.
+    pub fn remove_files<R: Files<File = File>>(
         &self,
         files: &R,
         alloc: Global,
-        logs: &[Generation],
+        older: &[FileName],
         newest: &Synced,
     ) -> Result<(), FolderFault>
-        requires { All (λ log. Precedes log newest.now.generation) logs.now }
+        requires { All (IsOlder (Numbered newest.now.generation)) older.now }
     {
-        let mut outcome = Ok(());
-        for generation in logs {
-            if let Err(fault) = self.remove_log_of(files, alloc, *generation) {
-                outcome = first_fault(outcome, Err(fault));
-            }
-        }
-        outcome
-    }
-
-    /// Removes the tables of eras before that of a generation whose log is on the disk, and then
-    /// syncs the names. After a fault of one the others are removed all the same, and the first
-    /// fault is given: `Unremoved` if a table is missing or cannot be removed. After `Unsynced` they
-    /// are gone, but a loss of power may bring them back.
-    pub fn remove_eras<R: Files<File = File>>(
-        &self,
-        files: &R,
-        alloc: Global,
-        eras: &[u64],
-        newest: &Synced,
-    ) -> Result<(), FolderFault>
-        requires { All (λ era. era < newest.now.generation.era) eras.now }
-    {
-        if eras.is_empty() {
+        if older.is_empty() {
             return Ok(());
         }
         let mut outcome = Ok(());
-        for era in eras {
-            outcome = first_fault(outcome, self.remove_era(files, alloc, *era));
+        for file in older {
+            outcome = first_fault(outcome, self.remove_named(files, alloc, *file));
         }
         first_fault(outcome, self.sync(files))
     }
 
-    /// Removes the table of an era. Its name is not synced.
-    fn remove_era<R: Files<File = File>>(
+    /// Removes a file. Its name is not synced.
+    fn remove_named<R: Files<File = File>>(
         &self,
         files: &R,
         alloc: Global,
-        era: u64,
+        file: FileName,
     ) -> Result<(), FolderFault> {
-        let path = self.path_of(alloc, FileName::Era(era))?;
+        let path = self.path_of(alloc, file)?;
         remove_file(files, path.as_str())
     }
 
-    /// Moves logs before a generation whose log is on the disk to the archive, which is made, with
-    /// mode 700, if it is missing. After a fault of one the others are moved all the same, and the
-    /// first fault is given.
+    /// Moves files that are older than a generation whose log is on the disk to the archive, which is
+    /// made, with mode 700, if it is missing. After a fault of one the others are moved all the same,
+    /// and the first fault is given.
     ///
     /// `Unmade` comes if the archive cannot be made; then nothing has changed. `Unmoved` comes if a
-    /// log is missing or cannot be moved, or the archive has one of its name. After `Unsynced` they
+    /// file is missing or cannot be moved, or the archive has one of its name. After `Unsynced` they
     /// are moved, but a loss of power may undo that.
-    pub fn archive_logs<R: Files<File = File>>(
+    pub fn archive_files<R: Files<File = File>>(
         &self,
         files: &R,
         alloc: Global,
-        logs: &[Generation],
+        older: &[FileName],
         newest: &Synced,
     ) -> Result<(), FolderFault>
-        requires { All (λ log. Precedes log newest.now.generation) logs.now }
+        requires { All (IsOlder (Numbered newest.now.generation)) older.now }
     {
-        if logs.is_empty() {
+        if older.is_empty() {
             return Ok(());
         }
         let archive = self.archive_path(alloc)?;
         make_folder(files, archive.as_str())?;
         let mut outcome = Ok(());
-        for generation in logs {
-            let moved = self.archive_log(files, alloc, archive.as_str(), *generation);
+        for file in older {
+            let moved = self.archive_file(files, alloc, archive.as_str(), *file);
             outcome = first_fault(outcome, moved);
         }
         let synced = first_fault(sync_names(files, archive.as_str()), self.sync(files));
         first_fault(outcome, synced)
     }
 
-    /// Moves a log to the archive of this path.
-    fn archive_log<R: Files<File = File>>(
+    /// Moves a file to the archive of this path.
+    fn archive_file<R: Files<File = File>>(
         &self,
         files: &R,
         alloc: Global,
         archive: &str,
-        generation: Generation,
+        file: FileName,
     ) -> Result<(), FolderFault> {
-        let log = FileName::Log(generation);
-        let from = self.path_of(alloc, log)?;
-        let to = path_in(alloc, archive, log)?;
+        let from = self.path_of(alloc, file)?;
+        let to = path_in(alloc, archive, file)?;
         move_file(files, from.as_str(), to.as_str())
     }
 
@@ -277,10 +260,10 @@ impl Folder {
         }
     }
 
-    /// Removes the logs of the archive whose last change is more than `days` days before second
-    /// `now` since 1970. After a fault of one the others are removed all the same, and the first
-    /// fault is given: `Unread` if the archive, or the date of a log, cannot be read, and
-    /// `Unremoved` if one cannot be removed.
+    /// Removes the logs and the tables of the archive whose last change is more than `days` days before
+    /// second `now` since 1970. After a fault of one the others are removed all the same, and the first
+    /// fault is given: `Unread` if the archive, or the date of a file, cannot be read, and `Unremoved` if
+    /// one cannot be removed.
     pub fn remove_expired<R: Files<File = File> + Alloc<A = Global> + Clone + Drop>(
         &self,
         rt: &R,
@@ -290,7 +273,7 @@ impl Folder {
         let archive = self.archive_path(rt.alloc())?;
         let mut outcome = Ok(());
         for file in self.archived(rt)?.as_slice() {
-            if let FileName::Log(_) = file {
+            if let FileName::Log(_) | FileName::FormerTable(_) = file {
                 let path = path_in(rt.alloc(), archive.as_str(), *file)?;
                 outcome = first_fault(outcome, remove_if_expired(rt, path.as_str(), days, now));
             }

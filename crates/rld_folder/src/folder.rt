@@ -3,7 +3,7 @@ use crate::name::{FileName, Generation};
 use rld_log::FileLog;
 use std::alloc::{AllocError, Global};
 use std::fs::{self, DirBuilder, File, OpenOptions, ReadDir, TryLockError};
-use std::io::{self, ErrorKind, Read, Write};
+use std::io::{self, ErrorKind, Read};
 use std::os::unix::fs::{DirBuilderExt, FileTypeExt, MetadataExt, OpenOptionsExt, PermissionsExt};
 use std::rt::Files;
 
@@ -18,8 +18,8 @@ const OTHERS_WRITE: u32 = 0o022;
 
 /// The folder of a server, which this process has locked until the value is dropped.
 ///
-/// The system is trusted to keep its files over a loss of power: each call that makes one syncs the
-/// file and the folder before it returns.
+/// The system is trusted to keep its files over a loss of power: the call that makes one syncs its name
+/// before it returns.
 #[derive(Drop)]
 pub struct Folder {
     pub(crate) path: String,
@@ -190,15 +190,15 @@ impl Folder {
         }
     }
 
-    /// The octets of an era's table. `Linked` comes if a link is in its place, `Unopened` if it is
+    /// The octets of the table of an era, of a version before 0.4. `Linked` comes if a link is in its place, `Unopened` if it is
     /// missing, `Unread` if it cannot be read.
-    pub fn read_era<R: Files<File = File>>(
+    pub fn read_former_table<R: Files<File = File>>(
         &self,
         files: &R,
         alloc: Global,
         era: u64,
     ) -> Result<Vec<u8>, FolderFault> {
-        let path = self.path_of(alloc, FileName::Era(era))?;
+        let path = self.path_of(alloc, FileName::FormerTable(era))?;
         check_no_link(files, path.as_str())?;
         let mut file = match File::open(files, path.as_str()) {
             Ok(file) => file,
@@ -209,26 +209,6 @@ impl Folder {
             Ok(_) => Ok(octets),
             Err(error) => Err(FolderFault::of(&error, FolderFault::Unread)),
         }
-    }
-
-    /// Writes the table of a new era and syncs it. `Unopened` comes if it exists or cannot be made.
-    /// After `Unwritten` a part of it may be there, and after `Unsynced` a loss of power may remove
-    /// it, or a part of it: do not use its number again.
-    pub fn write_era<R: Files<File = File>>(
-        &self,
-        files: &R,
-        alloc: Global,
-        era: u64,
-        octets: &[u8],
-    ) -> Result<(), FolderFault> {
-        let mut file = self.create(files, alloc, FileName::Era(era))?;
-        if let Err(error) = file.write_all(octets) {
-            return Err(FolderFault::of(&error, FolderFault::Unwritten));
-        }
-        if file.sync_all().is_err() {
-            return Err(FolderFault::Unsynced);
-        }
-        self.sync(files)
     }
 
     /// A new file, for its owner to read and write.

@@ -17,5 +17,5 @@ pub use name::{FileName, Generation};
 pub use new_log::{LogKey, NewLog};
 pub use newest::newest_generation;
 pub use older::{
-    ArchivedLog, ROOM, excess_logs, is_expired, logless_eras, logs_for_room, octets_in, older_logs,
+    ArchivedLog, ROOM, excess_logs, is_expired, logs_for_room, octets_in, older_files,
 };

@@ -1,17 +1,24 @@
-ghost use Rattle.std.specs.Prelude.{◌≡◌, ℕ, List, ◌<◌, ◌^◌, ◌↔◌, ◌++◌, IfOk, IfSome, IsTrue, Some, codes, string_bytes, MatchOption};
+ghost use Rattle.std.specs.Prelude.{◌≡◌, ℕ, List, ◌<◌, ◌^◌, ◌++◌, IfOk, IfSome, Some, None, codes, string_bytes, MatchOption};
 ghost use Rattle.std.specs.Fmt.{decimal};
-ghost use Rattle.rld_folder.specs.Names.{IsName, name_of};
+ghost use Rattle.rld_folder.specs.Names.{IsGeneration, IsName, name_of, word_of};
 ghost use Rattle.rld_folder.specs.declared.name.FileName.{FileName as OneName};
+ghost use Rattle.rld_folder.specs.declared.name.Generation.{Generation as OneGeneration};
 
 use std::alloc::{AllocError, Global};
+use std::fmt;
 
-/// A generation of an era.
+/// A generation, by the name of its log.
 #[derive(Clone, Copy, Debug)]
-pub struct Generation {
-    /// The number of the era, from 0.
-    pub era: u64,
-    /// The number of the generation within its era, from 0.
-    pub number: u64,
+pub enum Generation {
+    /// `log-3-17`: of a version before 0.4, which counted the generations of each era.
+    Former {
+        /// The number of the era, from 0.
+        era: u64,
+        /// The number of the generation within its era, from 0.
+        number: u64,
+    },
+    /// `log-17`: by its number, from 1.
+    Numbered(u64),
 }
 
 /// What a file of a folder is for.
@@ -19,10 +26,27 @@ pub struct Generation {
 pub enum FileName {
     /// `lock`: the running server holds it.
     Lock,
-    /// `era-3`: the table of an era.
-    Era(u64),
-    /// `log-3-17`: the log of a generation.
+    /// `era-3`: the table of an era, of a version before 0.4.
+    FormerTable(u64),
+    /// `log-17`, or `log-3-17`: the log of a generation.
     Log(Generation),
+}
+
+impl fmt::Display for FileName {
+    ghost use Rattle.std.specs.Prelude.{Some};
+    ghost use Rattle.rld_folder.specs.Names.{name_of};
+
+    ghost output = { λ file. Some (name_of file) };
+
+    /// Writes the name of the file.
+    fn fmt<W: fmt::Write>(&self, f: &mut fmt::Formatter<W>) -> fmt::Result {
+        match self {
+            FileName::Lock => f.write_str("lock"),
+            FileName::FormerTable(era) => write!(f, "era-{era}"),
+            FileName::Log(Generation::Former { era, number }) => write!(f, "log-{era}-{number}"),
+            FileName::Log(Generation::Numbered(number)) => write!(f, "log-{number}"),
+        }
+    }
 }
 
 /// The number of a word, if it is the number's own text. A similar word, such as `07` or `+7`, may
@@ -42,26 +66,36 @@ fn number_after(name: &str, beginning: &str) -> Option<u64>
     number_of(name.strip_prefix(beginning)?)
 }
 
-/// The words of the two numbers after `log-`.
-fn words_after(name: &str) -> Option<(&str, &str)>
-    ensures { (era number : ℕ) → era < 2 ^ 64 →
-        name.now ≡ codes "log-" ++ (decimal era ++ (codes "-" ++ decimal number)) →
+/// The words of two numbers, or `None` where there is but one.
+fn words_of(word: &str) -> Option<(&str, &str)>
+    ensures two { (era number : ℕ) → era < 2 ^ 64 →
+        word.now ≡ decimal era ++ (codes "-" ++ decimal number) →
         MatchOption result ⊥ (λ words. (words.0.now ≡ decimal era) × (words.1.now ≡ decimal number)) }
+    ensures one { (number : ℕ) → number < 2 ^ 64 → word.now ≡ decimal number → result ≡ None }
 {
-    name.strip_prefix("log-")?.split_once('-')
+    word.split_once('-')
 }
 
-/// The generation of a name of `log-` and two numbers.
-fn generation_after(name: &str) -> Option<Generation>
-    ensures { (era number : ℕ) → era < 2 ^ 64 → number < 2 ^ 64 →
-        name.now ≡ codes "log-" ++ (decimal era ++ (codes "-" ++ decimal number)) →
-        result ≡ Some (record { era = era; number = number }) }
+/// The generation of a word of two numbers, or of one.
+fn generation_of(word: &str) -> Option<Generation>
+    ensures { (generation : OneGeneration) → IsGeneration generation →
+        word.now ≡ word_of generation → result ≡ Some generation }
 {
-    let (era, number) = words_after(name)?;
-    Some(Generation {
-        era: number_of(era)?,
-        number: number_of(number)?,
-    })
+    match words_of(word) {
+        Some((era, number)) => Some(Generation::Former {
+            era: number_of(era)?,
+            number: number_of(number)?,
+        }),
+        None => Some(Generation::Numbered(number_of(word)?)),
+    }
+}
+
+/// The generation after `log-`.
+fn generation_after(name: &str) -> Option<Generation>
+    ensures { (generation : OneGeneration) → IsGeneration generation →
+        name.now ≡ codes "log-" ++ word_of generation → result ≡ Some generation }
+{
+    generation_of(name.strip_prefix("log-")?)
 }
 
 impl FileName {
@@ -69,11 +103,7 @@ impl FileName {
     pub fn text(self, alloc: Global) -> Result<String, AllocError>
         ensures { IfOk result (λ text. string_bytes text ≡ name_of self) }
     {
-        match self {
-            FileName::Lock => String::from_str(alloc, "lock"),
-            FileName::Era(era) => format!(in alloc; "era-{era}"),
-            FileName::Log(Generation { era, number }) => format!(in alloc; "log-{era}-{number}"),
-        }
+        format!(in alloc; "{self}")
     }
 
     /// The only file that may have this name.
@@ -84,7 +114,7 @@ impl FileName {
             return Some(FileName::Lock);
         }
         if let Some(era) = number_after(name, "era-") {
-            return Some(FileName::Era(era));
+            return Some(FileName::FormerTable(era));
         }
         Some(FileName::Log(generation_after(name)?))
     }

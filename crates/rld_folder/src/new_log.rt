@@ -14,12 +14,12 @@ use std::rt::Files;
 /// `Folder::create_log` makes one.
 #[derive(Drop)]
 pub struct LogKey {
-    generation: Generation,
+    generation: u64,
 }
 
 impl LogKey {
-    /// The generation of the log.
-    pub fn generation(&self) -> Generation
+    /// The number of the log's generation.
+    pub fn generation(&self) -> u64
         ensures { result ≡ self.now.generation }
     {
         self.generation
@@ -36,18 +36,20 @@ pub struct NewLog {
 }
 
 impl Folder {
-    /// Makes the empty log of a new generation. Its name is synced; the log has to sync its octets.
+    /// Makes the empty log of the new generation of this number. Its name is synced; the log has to sync
+    /// its octets.
     /// `Unopened` comes if it exists or cannot be made. `Unsynced` comes if its name cannot be
     /// synced; then it is removed again if possible.
     pub fn create_log<R: Files<File = File>>(
         &self,
         files: &R,
         alloc: Global,
-        generation: Generation,
+        generation: u64,
     ) -> Result<NewLog, FolderFault>
         ensures { IfOk result (λ made. made.key.generation ≡ generation) }
     {
-        let file = self.create(files, alloc, FileName::Log(generation))?;
+        let name = FileName::Log(Generation::Numbered(generation));
+        let file = self.create(files, alloc, name)?;
         if let Err(fault) = self.sync(files) {
             let _ = self.remove_log_of(files, alloc, generation);
             return Err(fault);

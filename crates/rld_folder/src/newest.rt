@@ -5,12 +5,24 @@ ghost use Rattle.rld_folder.specs.declared.name.FileName.{FileName as OneName};
 use crate::name::{FileName, Generation};
 
 impl Generation {
-    /// Whether this one is of an earlier era, or has a lower number in the same era.
+    /// Whether this one is older: it is of an earlier era, or has a lower number in the same era; those of
+    /// eras are older than all that have a number alone, and of these the lower number is.
     pub fn precedes(self, other: Generation) -> bool
         ensures before { IsTrue result ↔ Precedes self other }
         ensures test { result ≡ precedes self other }
     {
-        self.era < other.era || (self.era == other.era && self.number < other.number)
+        match (self, other) {
+            (
+                Generation::Former { era, number },
+                Generation::Former {
+                    era: other_era,
+                    number: other_number,
+                },
+            ) => era < other_era || (era == other_era && number < other_number),
+            (Generation::Former { .. }, Generation::Numbered(_)) => true,
+            (Generation::Numbered(_), Generation::Former { .. }) => false,
+            (Generation::Numbered(number), Generation::Numbered(other)) => number < other,
+        }
     }
 
     /// Whether this one is before a limit, if there is one.

@@ -1,9 +1,7 @@
-//! The logs that no start needs any more, and the tables of eras without a log.
+//! The files that no start needs any more, and the logs that go of an archive.
 
-ghost use Rattle.std.specs.Prelude.{◌≡◌, ◌↔◌, ◌<◌, ◌^◌, ◌-◌, All, IfOk, IfSome, IsTrue, sum_by};
-ghost use Rattle.std.specs.List.{list_any};
-ghost use Rattle.rld_folder.specs.Newest.{Precedes};
-ghost use Rattle.rld_folder.specs.Older.{AreExcess, IsExpired, excess, octets_in, has_log, is_log_of, is_logless, logless_era, logless_eras, older_log, older_logs};
+ghost use Rattle.std.specs.Prelude.{◌≡◌, ◌↔◌, ◌<◌, ◌^◌, ◌-◌, All, IfOk, IsTrue};
+ghost use Rattle.rld_folder.specs.Older.{AreExcess, IsExpired, IsOlder, age, excess, is_numbered, is_older, octets_in, older_files};
 
 use crate::name::{FileName, Generation};
 use std::alloc::{AllocError, Global};
@@ -16,107 +14,46 @@ pub const ROOM: u64 = 4_000_000;
 
 const _: () = prove!(ROOM == 4_000_000);
 
-/// The generation of a log before the newest one.
-fn older_log(newest: Generation, file: FileName) -> Option<Generation>
-    ensures older { result ≡ older_log newest file }
-    ensures before { IfSome result (λ log. Precedes log newest) }
+/// Whether a generation is counted by one number, in no era.
+fn is_numbered(generation: Generation) -> bool
+    ensures { result ≡ is_numbered generation }
 {
-    match file {
-        FileName::Log(generation) if generation.precedes(newest) => Some(generation),
-        FileName::Log(_) | FileName::Lock | FileName::Era(_) => None,
+    match generation {
+        Generation::Former { .. } => false,
+        Generation::Numbered(_) => true,
     }
 }
 
-/// The generations before the newest one whose logs are among these files, in order. It fails only
-/// if memory is refused.
-pub fn older_logs(
+/// Whether a file is older than the newest generation: the log of one before it; or, where it is of no
+/// era, the table of one.
+fn is_older(newest: Generation, file: FileName) -> bool
+    ensures test { result ≡ is_older newest file }
+    ensures older { IsTrue result → IsOlder newest file }
+{
+    match file {
+        FileName::Log(generation) => generation.precedes(newest),
+        FileName::FormerTable(_) => is_numbered(newest),
+        FileName::Lock => false,
+    }
+}
+
+/// Those of these files that no start needs once the log of the newest generation is on the disk, in order: the
+/// logs before it; and, where it is of no era, the tables of eras. It fails only if memory is refused.
+pub fn older_files(
     alloc: Global,
     files: &[FileName],
     newest: Generation,
-) -> Result<Vec<Generation>, AllocError>
-    ensures logs { IfOk result (λ logs. logs.items ≡ older_logs newest files.now) }
-    ensures before { IfOk result (λ logs. All (λ log. Precedes log newest) logs.items) }
+) -> Result<Vec<FileName>, AllocError>
+    ensures files { IfOk result (λ older. older.items ≡ older_files newest files.now) }
+    ensures older { IfOk result (λ older. All (IsOlder newest) older.items) }
 {
-    let mut logs = Vec::new(alloc);
+    let mut older = Vec::new(alloc);
     for file in files {
-        if let Some(generation) = older_log(newest, *file) {
-            logs.push(generation)?;
+        if is_older(newest, *file) {
+            older.push(*file)?;
         }
     }
-    Ok(logs)
-}
-
-/// Whether a file is the log of a generation of this era.
-fn is_log_of(era: u64, file: FileName) -> bool
-    ensures { result ≡ is_log_of era file }
-{
-    match file {
-        FileName::Log(generation) => generation.era == era,
-        FileName::Lock | FileName::Era(_) => false,
-    }
-}
-
-/// Whether a log of this era is among these files.
-fn has_log_among(files: &[FileName], era: u64) -> bool
-    ensures { result ≡ list_any (is_log_of era) files.now }
-{
-    files.iter().any(|file| is_log_of(era, *file))
-}
-
-/// Whether a log of this era is in a folder or in its archive.
-fn has_log(files: &[FileName], archived: &[FileName], era: u64) -> bool
-    ensures { result ≡ has_log files.now archived.now era }
-{
-    has_log_among(files, era) || has_log_among(archived, era)
-}
-
-/// Whether an era is before that of the newest generation, and has no log.
-fn is_logless(files: &[FileName], archived: &[FileName], newest: Generation, era: u64) -> bool
-    ensures logless { result ≡ is_logless files.now archived.now newest era }
-    ensures before { IsTrue result → era < newest.era }
-{
-    era < newest.era && !has_log(files, archived, era)
-}
-
-/// The era of a table, if it is before that of the newest generation and has no log.
-fn logless_era(
-    files: &[FileName],
-    archived: &[FileName],
-    newest: Generation,
-    file: FileName,
-) -> Option<u64>
-    ensures logless { result ≡ logless_era files.now archived.now newest file }
-    ensures before { IfSome result (λ era. era < newest.era) }
-{
-    let FileName::Era(era) = file else {
-        return None;
-    };
-    if is_logless(files, archived, newest, era) {
-        Some(era)
-    } else {
-        None
-    }
-}
-
-/// The eras before that of the newest generation whose tables are among the files of a folder, and
-/// that have no log there or in its archive, in the order of the files. It fails only if memory is
-/// refused.
-pub fn logless_eras(
-    alloc: Global,
-    files: &[FileName],
-    archived: &[FileName],
-    newest: Generation,
-) -> Result<Vec<u64>, AllocError>
-    ensures eras { IfOk result (λ eras. eras.items ≡ logless_eras files.now archived.now newest) }
-    ensures before { IfOk result (λ eras. All (λ era. era < newest.era) eras.items) }
-{
-    let mut eras = Vec::new(alloc);
-    for file in files {
-        if let Some(era) = logless_era(files, archived, newest, *file) {
-            eras.push(era)?;
-        }
-    }
-    Ok(eras)
+    Ok(older)
 }
 
 /// A log of an archive.
@@ -139,6 +76,16 @@ pub fn octets_in(logs: &[ArchivedLog]) -> u64
     octets
 }
 
+/// The place of a generation in the order of age: those of eras first, by era and number, and then the others.
+fn age(generation: Generation) -> (u8, u64, u64)
+    ensures { result ≡ age generation }
+{
+    match generation {
+        Generation::Former { era, number } => (0, era, number),
+        Generation::Numbered(number) => (1, number, 0),
+    }
+}
+
 /// Of the logs of an archive those that go for what is left to have at most `limit` octets: the oldest first,
 /// and no more of them than that takes. It fails only where memory is refused.
 pub fn excess_logs(
@@ -148,7 +95,7 @@ pub fn excess_logs(
 ) -> Result<Vec<Generation>, AllocError>
     ensures { IfOk result (λ gone. AreExcess limit logs.items gone.items) }
 {
-    logs.sort_by_cached_key(|log| (log.generation.era, log.generation.number))?;
+    logs.sort_by_cached_key(|log| age(log.generation))?;
     let gone = excess(alloc, logs.as_slice(), limit)?;
     Ok(gone)
 }

@@ -14,10 +14,9 @@ use Rattle.rsl_event.specs.declared.meaning.Note.{Note}
 use Rattle.rsl_event.specs.declared.nas.Nas.{Nas}
 use Rattle.rsl_event.specs.declared.nas.NasName.{NasName}
 use Rattle.rsl_event.specs.declared.nas.NasName.TheVariants.{Identifier, Address, Unnamed}
-use Rattle.rsl_shard.specs.Restep.{BooksSeen}
 use Rattle.rsl_shard.specs.declared.moved.Move.{Move}
 use Rattle.rsl_shard.specs.declared.moved.Move.TheVariants.{Own, Sweep, Tick, Stray}
-use Rattle.rld_books.specs.Server.{decision_in, replay, server_after}
+use Rattle.rld_books.specs.Server.{ServerSeen, decision_in, replay, server_after}
 use Rattle.rld_spelling.specs.Moves.{moves_field}
 use Rattle.rld_store.specs.Generations.{counts_of}
 use Rattle.rld_values.specs.Values.{dotted, escaped, hex}
@@ -121,15 +120,15 @@ decision_text (Accept number) = codes "accept " ++ decimal number
 decision_text LimitReject = codes "reject limit"
 decision_text Done = codes "done"
 
--- the line of a move of a file, with its number in the era
+-- the line of a move of a file, with its number in the history
 unfoldable pub line : (file : List ℕ) → Configuration → (number : ℕ) → Move → Decision → List ℕ
 line file config number moved decision =
     escaped file ++ (32 ∷ (decimal number ++ (32 ∷ (decimal (moment_of moved) ++ (32 ∷ (move_text config moved
     ++ (codes " -> " ++ (decision_text decision ++ 10 ∷ []))))))))
 
--- the lines of moves, each with the decision of the books at that point; the era had `number` moves
+-- the lines of moves, each with the decision of the books at that point; the history had `number` moves
 -- before the first of them
-unfoldable pub lines_of : (file : List ℕ) → Configuration → (number : ℕ) → (server : List BooksSeen)
+unfoldable pub lines_of : (file : List ℕ) → Configuration → (number : ℕ) → (server : ServerSeen)
     → List Move → List ℕ
 lines_of file config number server [] = []
 lines_of file config number server (moved ∷ moves) =
@@ -137,8 +136,8 @@ lines_of file config number server (moved ∷ moves) =
     ++ lines_of file config (number + 1) (server_after server moved) moves
 
 -- the lines of the moves in a payload, and the books and the number of moves after them
-pub record IsPrinted (file : List ℕ) (config : Configuration) (number : ℕ) (server : List BooksSeen)
-    (payload lines : List ℕ) (next : ℕ) (after : List BooksSeen) : Type 0 where
+pub record IsPrinted (file : List ℕ) (config : Configuration) (number : ℕ) (server : ServerSeen)
+    (payload lines : List ℕ) (next : ℕ) (after : ServerSeen) : Type 0 where
   pub moves : List Move
   pub fit : (moves_field (counts_of config)).Fits moves
   pub spelled : payload ≡ (moves_field (counts_of config)).spell moves

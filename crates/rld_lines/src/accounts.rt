@@ -1,31 +1,28 @@
-//! The accounts of an era's table.
+//! The accounts of a log's table.
 
-ghost use Rattle.std.specs.Prelude.{◌≡◌, ℕ, IfOk};
-ghost use Rattle.rld_spelling.specs.Eras.{era_octets};
+ghost use Rattle.std.specs.Prelude.{◌≡◌, IfOk};
+ghost use Rattle.rld_spelling.specs.TableSpelled.{table_octets};
 ghost use Rattle.rld_spelling.specs.Tables.{table_of};
 
-use crate::fault::LinesFault;
+use crate::fault::{LinesFault, wrong};
 use rld_books::TableFault;
-use rld_start::{Cause, Wrong};
+use rld_start::Cause;
+use rld_store::Part;
 use rsl_accounts::Config;
 use std::alloc::Global;
 
-/// A configuration of an era with this file. `Table` comes if the octets spell no table, or if no
+/// A configuration with this table of a log. `Log` comes if the octets spell no table, or if no
 /// configuration has that table, and `NoMemory` if memory is refused.
-pub fn config_of(alloc: Global, file: &[u8]) -> Result<Config, LinesFault>
-    ensures { IfOk result (λ config.
-        (boot : ℕ) × (file.now ≡ era_octets (table_of boot config))) }
+pub(crate) fn config_of(alloc: Global, table: Part<'_>) -> Result<Config, LinesFault>
+    ensures { IfOk result (λ config. table.entry.payload.now ≡ table_octets (table_of config)) }
 {
-    match rld_books::config_of(alloc, file) {
+    match rld_books::config_of(alloc, table.payload) {
         Ok(config) => Ok(config),
         Err(TableFault::NoMemory) => Err(LinesFault::NoMemory),
-        Err(TableFault::Malformed(fault)) => Err(LinesFault::Table(Wrong {
-            offset: fault.offset(file.len()),
-            cause: Cause::Malformed(fault.cause),
-        })),
-        Err(TableFault::NoConfiguration) => Err(LinesFault::Table(Wrong {
-            offset: 0,
-            cause: Cause::NoConfiguration,
-        })),
+        Err(TableFault::Malformed(fault)) => {
+            let offset = fault.offset(table.end);
+            Err(wrong(offset, Cause::Malformed(fault.cause)))
+        }
+        Err(TableFault::NoConfiguration) => Err(wrong(table.begin(), Cause::NoConfiguration)),
     }
 }

@@ -1,6 +1,6 @@
-use rld_log::Damage;
+use rld_log::{Damage, HEAD_LEN};
 use rld_start::{Cause, Wrong};
-use rld_store::StoreFault;
+use rld_store::{Malformed, StoreFault};
 use rsl_wire::NoMemory;
 use std::alloc::AllocError;
 use std::io;
@@ -12,10 +12,20 @@ pub enum LinesFault {
     NoMemory,
     /// The writer failed.
     Unwritten,
-    /// The table of the log's era is damaged.
-    Table(Wrong),
     /// The log is damaged.
     Log(Wrong),
+}
+
+/// The fault of a log with a damage at an offset.
+pub(crate) fn wrong(offset: usize, cause: Cause) -> LinesFault {
+    LinesFault::Log(Wrong { offset, cause })
+}
+
+impl LinesFault {
+    /// The fault of a log that a version before 0.4 wrote.
+    pub fn former() -> LinesFault {
+        wrong(HEAD_LEN, Cause::Former)
+    }
 }
 
 impl From<Wrong> for LinesFault {
@@ -26,10 +36,13 @@ impl From<Wrong> for LinesFault {
 
 impl From<Damage> for LinesFault {
     fn from(damage: Damage) -> LinesFault {
-        LinesFault::Log(Wrong {
-            offset: damage.offset,
-            cause: Cause::Damaged,
-        })
+        wrong(damage.offset, Cause::Damaged)
+    }
+}
+
+impl From<Malformed> for LinesFault {
+    fn from(bad: Malformed) -> LinesFault {
+        wrong(bad.offset, Cause::Malformed(bad.cause))
     }
 }
 

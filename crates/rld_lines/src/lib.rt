@@ -12,7 +12,6 @@ mod reading;
 mod replay;
 mod words;
 
-pub use accounts::config_of;
 pub use fault::LinesFault;
 pub use reading::{Begun, frames_of, front_of};
 pub use replay::{LogFile, Printed, write_lines};

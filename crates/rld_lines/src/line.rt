@@ -24,7 +24,7 @@ fn moment_of(moved: &Move) -> u64
     }
 }
 
-/// Writes the start of a line: the file, the move's number in its era, its moment, and the move.
+/// Writes the start of a line: the file, the move's number, its moment, and the move.
 pub(crate) fn push_front(
     out: &mut Vec<u8>,
     file: &str,

@@ -1,11 +1,13 @@
 //! A log that is read: its frames, and what its generation began with.
 
+use crate::accounts::config_of;
 use crate::fault::LinesFault;
-use rld_folder::Generation;
 use rld_log::Frames;
 use rld_spelling::Header;
-use rld_start::{First, check_header, check_torn};
-use rld_store::Parts;
+use rld_start::{check_header, check_torn};
+use rld_store::{Front, Parts, StoreFault};
+use rsl_accounts::Config;
+use std::alloc::Global;
 
 /// The front of a generation that was begun.
 #[derive(Clone, Copy)]
@@ -24,18 +26,23 @@ pub fn frames_of(octets: Vec<u8>) -> Result<Frames, LinesFault> {
     Ok(frames)
 }
 
-/// The front of the log of a generation with these payloads, of an era whose file is `table`;
-/// `None` if the generation was not begun. `Log` comes if the header cannot be read, or is not that
-/// of the log's name and of the table.
+/// The front of the log of a generation with these payloads, and a configuration that has its
+/// table; `None` if the generation was not begun.
+///
+/// `Log` comes if the header cannot be read, or is not that of the log's name; then come the faults of
+/// `config_of`.
 pub fn front_of<'a>(
+    alloc: Global,
     payloads: &'a [&'a [u8]],
-    generation: Generation,
-    table: &[u8],
-) -> Result<Option<Begun<'a>>, LinesFault> {
-    let First::Begun(header) = First::of(payloads)? else {
-        return Ok(None);
+    generation: u64,
+) -> Result<Option<(Config, Begun<'a>)>, LinesFault> {
+    let parts = match Parts::of(payloads) {
+        Ok(parts) => parts,
+        Err(StoreFault::Unbegun) => return Ok(None),
+        Err(fault) => return Err(LinesFault::from(fault)),
     };
-    check_header(&header, generation, table)?;
-    let parts = Parts::of(payloads)?;
-    Ok(Some(Begun { header, parts }))
+    let Front { header, table } = parts.front.front()?;
+    check_header(&header, generation)?;
+    let config = config_of(alloc, table)?;
+    Ok(Some((config, Begun { header, parts })))
 }

@@ -6,14 +6,12 @@ ghost use Rattle.rld_lines.specs.Lines.{IsPrinted, line, lines_of};
 ghost use Rattle.rld_spelling.specs.Moves.{MoveFits};
 ghost use Rattle.rld_store.specs.Generations.{counts_of};
 
-use crate::accounts::config_of;
-use crate::fault::LinesFault;
+use crate::fault::{LinesFault, wrong};
 use crate::line::{push_end, push_front};
 use crate::reading::{Begun, frames_of, front_of};
 use rld_books::ServerBooks;
-use rld_folder::Generation;
 use rld_spelling as spelling;
-use rld_start::{Cause, Wrong};
+use rld_start::Cause;
 use rld_store::{Part, counts_in};
 use rsl_accounts::Config;
 use rsl_shard::Move;
@@ -25,8 +23,8 @@ use std::io::Write;
 pub struct LogFile<'a> {
     /// Its name in the lines.
     pub name: &'a str,
-    /// The generation of its name.
-    pub generation: Generation,
+    /// The number of the generation in its name.
+    pub generation: u64,
     /// Its octets.
     pub octets: Vec<u8>,
 }
@@ -46,13 +44,8 @@ struct Replay<'a> {
     config: &'a Config,
     file: &'a str,
     books: ServerBooks,
-    /// The number of moves of the era replayed so far.
+    /// The number of moves replayed so far, and of those of all generations before.
     number: u64,
-}
-
-/// The fault of a log with a damage at an offset.
-fn wrong(offset: usize, cause: Cause) -> LinesFault {
-    LinesFault::Log(Wrong { offset, cause })
 }
 
 impl<'a> Replay<'a> {
@@ -162,24 +155,22 @@ fn write_moves<W: Write>(
     Ok(replay.number.saturating_sub(header.lines))
 }
 
-/// Writes the lines of a log, of an era whose file is `table`.
+/// Writes the lines of a log.
 ///
-/// A log whose generation was not begun has none. `Table` comes if `table` is damaged, and `Log` if
-/// a frame is spoilt before a whole one, or if the header is not that of the log's name and of the
-/// table: then no line is written. `Log` also comes if a payload spells nothing that can be there,
-/// or something of no account of the era, `Unwritten` if the writer failed, and `NoMemory` if
-/// memory is refused. The lines of the batches before such a payload are written.
+/// A log whose generation was not begun has none. `Log` comes if a frame is spoilt before a whole
+/// one, if a version before 0.4 wrote the log, if its header is not that of its name, or if its
+/// table is damaged: then no line is written. `Log` also comes if a payload spells nothing that can
+/// be there, or something of no account of the table, `Unwritten` if the writer failed, and
+/// `NoMemory` if memory is refused. The lines of the batches before such a payload are written.
 pub fn write_lines<W: Write>(
     alloc: Global,
-    table: &[u8],
     log: LogFile<'_>,
     writer: &mut W,
 ) -> Result<Printed, LinesFault> {
-    let config = config_of(alloc, table)?;
     let frames = frames_of(log.octets)?;
     let payloads = frames.payloads(alloc)?;
-    let moves = match front_of(&payloads, log.generation, table)? {
-        Some(begun) => write_moves(alloc, &config, log.name, begun, writer)?,
+    let moves = match front_of(alloc, &payloads, log.generation)? {
+        Some((config, begun)) => write_moves(alloc, &config, log.name, begun, writer)?,
         None => 0,
     };
     Ok(Printed {

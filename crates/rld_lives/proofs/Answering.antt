@@ -2,10 +2,9 @@
 use Rattle.std.proofs.Common.{◌≡◌, ℕ, zero, suc, List, [], ◌∷◌, ◌++◌, map, Option, Some, None, refl, sym, ap, subst, ◌∙◌, append_assoc, append-nil}
 use Rattle.std.specs.Prelude.{slice_get, Ok, Err}
 use Rattle.rsl_event.specs.declared.event.Decision.{Decision}
-use Rattle.rsl_shard.specs.Restep.{BooksSeen}
 use Rattle.rsl_shard.specs.declared.line.Line.{Line}
 use Rattle.rsl_shard.specs.declared.moved.Move.{Move}
-use Rattle.rld_books.specs.Server.{journal_of, replay, server_after}
+use Rattle.rld_books.specs.Server.{ServerSeen, journal_of, replay, server_after}
 use Rattle.rld_store.specs.Recorded.{RecordedSeen}
 use Rattle.rld_store.specs.declared.fault.RecordFault.TheVariants.{Failed, Ended}
 use Rattle.rld_lives.specs.Life.{AreLives, AreOutcomes, IsLife, IsLifeTold, Outcome, Stands, WhatIsAnsweredStands, recorded}
@@ -25,13 +24,13 @@ ok_is one other outcome is same =
     sym (ap (λ (o : Outcome). recorded_or o other) is) ∙ ap (λ (o : Outcome). recorded_or o other) (some_is outcome (Ok other) same)
 
 -- the moves of a journal
-moves_are : (server : List BooksSeen) (moves : List Move) → map (λ (line : Line). line.moved) (journal_of server moves) ≡ moves
+moves_are : (server : ServerSeen) (moves : List Move) → map (λ (line : Line). line.moved) (journal_of server moves) ≡ moves
 unfolding journal_of
 moves_are server [] = refl
 moves_are server (moved ∷ moves) = ap (λ (l : List Move). moved ∷ l) (moves_are (server_after server moved) moves)
 
 -- what stands in a history stands in a longer one
-stands_longer : (begun : List BooksSeen) (history rest batch : List Move) (answer : List Decision) → Stands begun history batch answer → Stands begun (history ++ rest) batch answer
+stands_longer : (begun : ServerSeen) (history rest batch : List Move) (answer : List Decision) → Stands begun history batch answer → Stands begun (history ++ rest) batch answer
 stands_longer begun history rest batch answer stands = record {
   before = stands.before;
   lines = stands.lines;
@@ -44,7 +43,7 @@ stands_longer begun history rest batch answer stands = record {
 }
 
 -- and in one that more moves begin
-stands_behind : (begun : List BooksSeen) (earlier history batch : List Move) (answer : List Decision) → Stands (replay begun earlier) history batch answer → Stands begun (earlier ++ history) batch answer
+stands_behind : (begun : ServerSeen) (earlier history batch : List Move) (answer : List Decision) → Stands (replay begun earlier) history batch answer → Stands begun (earlier ++ history) batch answer
 stands_behind begun earlier history batch answer stands =
     let first : List Line = journal_of begun earlier in
     record {
@@ -60,7 +59,7 @@ stands_behind begun earlier history batch answer stands =
     }
 
 -- the batches of a life that were recorded, each with its answer
-answered_stands : (server : List BooksSeen) (batches : List (List Move)) (outcomes : List Outcome) → AreOutcomes server batches outcomes
+answered_stands : (server : ServerSeen) (batches : List (List Move)) (outcomes : List Outcome) → AreOutcomes server batches outcomes
     → (n : ℕ) (batch : List Move) (answer : RecordedSeen) → slice_get batches n ≡ Some batch → slice_get outcomes n ≡ Some (Ok answer) → Stands server (recorded batches outcomes) batch answer.decisions
 answered_stands server [] outcomes are n batch answer at told = absurd (cc at)
 answered_stands server (first ∷ batches) [] are n batch answer at told = absurd are
@@ -81,7 +80,7 @@ answered_stands server (first ∷ batches) (Err fault ∷ outcomes) are zero bat
 answered_stands server (first ∷ batches) (Err Failed ∷ outcomes) are (suc n) batch answer at told = answered_stands server batches outcomes are n batch answer at told
 answered_stands server (first ∷ batches) (Err Ended ∷ outcomes) are (suc n) batch answer at told = absurd (cc (sym (ap (λ (o : List Outcome). slice_get o n) are) ∙ told))
 
-stands_in_life : (begun : List BooksSeen) (history left : List Move) (batches : List (List Move)) (outcomes : List Outcome) → IsLife begun history batches outcomes left
+stands_in_life : (begun : ServerSeen) (history left : List Move) (batches : List (List Move)) (outcomes : List Outcome) → IsLife begun history batches outcomes left
     → (n : ℕ) (batch : List Move) (answer : RecordedSeen) → slice_get batches n ≡ Some batch → slice_get outcomes n ≡ Some (Ok answer) → Stands begun left batch answer.decisions
 stands_in_life begun history left batches outcomes life n batch answer at told =
     let first : List Move = recorded batches outcomes in
@@ -94,13 +93,13 @@ record Longer (history left : List Move) : Type 0 where
   pub rest : List Move
   pub is : left ≡ history ++ rest
 
-keeps : (begun : List BooksSeen) (history left : List Move) (batches : List (List Move)) (one : Option (List Outcome)) → IsLifeTold begun history batches one left → Longer history left
+keeps : (begun : ServerSeen) (history left : List Move) (batches : List (List Move)) (one : Option (List Outcome)) → IsLifeTold begun history batches one left → Longer history left
 keeps begun history left batches None life = record { rest = []; is = life ∙ sym (append-nil history) }
 keeps begun history left batches (Some outcomes) life =
     let first : List Move = recorded batches outcomes in
     record { rest = first ++ life.more; is = life.left_is ∙ append_assoc history first life.more }
 
-keep : (begun : List BooksSeen) (history left : List Move) (plans : List (List (List Move))) (told : List (Option (List Outcome))) → AreLives begun history plans told left → Longer history left
+keep : (begun : ServerSeen) (history left : List Move) (plans : List (List (List Move))) (told : List (Option (List Outcome))) → AreLives begun history plans told left → Longer history left
 unfolding AreLives
 keep begun history left [] [] lives = record { rest = []; is = lives ∙ sym (append-nil history) }
 keep begun history left [] (one ∷ told) lives = absurd lives

@@ -3,9 +3,8 @@ use Rattle.std.proofs.Common.{◌≡◌, inl, inr, Bool, true, false, ◌||◌, 
 use Rattle.std.specs.Prelude.{Ok, Err, IsErr}
 use Rattle.std.specs.List.{AllByRecursion}
 use Rattle.std.proofs.lemmas.List.Folds.{list_any-append}
-use Rattle.rsl_shard.specs.Restep.{BooksSeen}
 use Rattle.rsl_shard.specs.declared.moved.Move.{Move}
-use Rattle.rld_books.specs.Server.{decisions_of, replay}
+use Rattle.rld_books.specs.Server.{ServerSeen, decisions_of, replay}
 use Rattle.rld_store.specs.Recorded.{RecordedSeen, is_ended}
 use Rattle.rld_store.specs.declared.fault.RecordFault.{RecordFault}
 use Rattle.rld_store.specs.declared.fault.RecordFault.TheVariants.{Failed, Ended}
@@ -88,7 +87,7 @@ module _ (history : List Move) (batches : List (List Move)) (outcomes : List Out
 -- ---- what comes of the next
 
 -- what came of a batch, and of the batches after it, by the books then
-module _ (server books made : List BooksSeen) (batches rest : List (List Move)) (batch : List Move) (outcomes now : List Outcome)
+module _ (server books made : ServerSeen) (batches rest : List (List Move)) (batch : List Move) (outcomes now : List Outcome)
     (out : (later : List Outcome) → AreOutcomes books (batch ∷ rest) later → AreOutcomes server batches (outcomes ++ later)) where
   next : (outcome : Outcome) → now ≡ outcomes ++ outcome ∷ [] → (later : List Outcome) → AreOutcomes books (batch ∷ rest) (outcome ∷ later) → AreOutcomes server batches (now ++ later)
   next outcome is later are =
@@ -96,16 +95,16 @@ module _ (server books made : List BooksSeen) (batches rest : List (List Move)) 
 
   pub next_recorded : (answer : RecordedSeen) → now ≡ outcomes ++ Ok answer ∷ [] → answer.decisions ≡ decisions_of books batch → made ≡ replay books batch
       → (later : List Outcome) → AreOutcomes made rest later → AreOutcomes server batches (now ++ later)
-  next_recorded answer is decided made_is later are = next (Ok answer) is later (decided, subst (λ (b : List BooksSeen). AreOutcomes b rest later) made_is are)
+  next_recorded answer is decided made_is later are = next (Ok answer) is later (decided, subst (λ (b : ServerSeen). AreOutcomes b rest later) made_is are)
 
   pub next_failed : now ≡ outcomes ++ Err Failed ∷ [] → made ≡ books → (later : List Outcome) → AreOutcomes made rest later → AreOutcomes server batches (now ++ later)
-  next_failed is same later are = next (Err Failed) is later (subst (λ (b : List BooksSeen). AreOutcomes b rest later) same are)
+  next_failed is same later are = next (Err Failed) is later (subst (λ (b : ServerSeen). AreOutcomes b rest later) same are)
 
   pub next_ended : now ≡ outcomes ++ Err Ended ∷ [] → AreOutcomes server batches now
   next_ended is = subst (λ (o : List Outcome). AreOutcomes server batches o) (append-nil now) (next (Err Ended) is [] refl)
 
 -- no more are left
-pub none_next : (server books : List BooksSeen) (batches rest : List (List Move)) (outcomes : List Outcome) → ((later : List Outcome) → AreOutcomes books rest later → AreOutcomes server batches (outcomes ++ later)) → length rest ≡ 0
+pub none_next : (server books : ServerSeen) (batches rest : List (List Move)) (outcomes : List Outcome) → ((later : List Outcome) → AreOutcomes books rest later → AreOutcomes server batches (outcomes ++ later)) → length rest ≡ 0
     → AreOutcomes server batches outcomes
 none_next server books batches [] outcomes out none = subst (λ (o : List Outcome). AreOutcomes server batches o) (append-nil outcomes) (out [] refl)
 none_next server books batches (batch ∷ rest) outcomes out none = absurd (omega (arith, none))

@@ -1,5 +1,4 @@
 pub mod Answering
-pub mod Counting
 pub mod History
 pub mod Lasting
 pub mod Leaving

@@ -6,7 +6,7 @@ use Rattle.std.specs.Global.{Vec}
 use Rattle.std.proofs.lemmas.List.{length-append, map-append}
 use Rattle.std.proofs.lemmas.List.Elements.{All-from_recursion, recursion_from_All}
 use Rattle.rsl_accounts.specs.Configuration.{Configuration}
-use Rattle.rsl_shard.specs.Restep.{BooksSeen}
+use Rattle.rld_books.specs.Server.{ServerSeen}
 use Rattle.rsl_shard.specs.declared.moved.Move.{Move}
 use Rattle.rld_lives.specs.Leaving.{HasLived, HaveHistory, HaveLived}
 use Rattle.rld_lives.specs.Life.{AreLives, Outcome}
@@ -14,12 +14,12 @@ use Rattle.rld_lives.specs.Planned.{told_of}
 use Rattle.rld_lives.proofs.Leaving.{items_of}
 
 -- How some lives are past and others are left: what these tell, `later`, is what more all of them tell.
-pub record HaveGone {L : Type 0} (config : Configuration) (opening : List BooksSeen) (history : List Move) (plans : List (List (List Move))) (told : List (Option (List Outcome))) (rest : List (List (List Move))) (seen : L → List ℕ) (older : Option L) (newest : L) : Type 0 where
+pub record HaveGone {L : Type 0} (config : Configuration) (opening : ServerSeen) (history : List Move) (plans : List (List (List Move))) (told : List (Option (List Outcome))) (rest : List (List (List Move))) (seen : L → List ℕ) (older : Option L) (newest : L) : Type 0 where
   pub mid : List Move
   pub have : HaveHistory config opening mid seen older newest
   pub gone : (later : List (Option (List Outcome))) (left : List Move) → AreLives opening mid rest later left → AreLives opening history plans (told ++ later) left
 
-module _ {L : Type 0} (config : Configuration) (opening : List BooksSeen) (history : List Move) (plans : List (List (List Move))) (seen : L → List ℕ) where
+module _ {L : Type 0} (config : Configuration) (opening : ServerSeen) (history : List Move) (plans : List (List (List Move))) (seen : L → List ℕ) where
   pub none_gone : (told : List (Option (Vec Outcome))) (rest : List (List (List Move))) (older : Option L) (newest : L) → told ≡ [] → plans ≡ rest → HaveHistory config opening history seen older newest
       → HaveGone config opening history plans (told_of told) rest seen older newest
   none_gone told rest older newest none all have = record {

@@ -2,7 +2,7 @@
 -- the two logs of a roll.
 use Rattle.std.specs.Prelude.{◌⊎◌, ℕ, List, [], ◌∷◌, ◌++◌, Option, Some, None}
 use Rattle.rsl_accounts.specs.Configuration.{Configuration}
-use Rattle.rsl_shard.specs.Restep.{BooksSeen}
+use Rattle.rld_books.specs.Server.{ServerSeen}
 use Rattle.rsl_shard.specs.declared.moved.Move.{Move}
 use Rattle.rld_log.specs.declared.log.Ending.{Ending}
 use Rattle.rld_spelling.specs.declared.moves.Counts.{Counts}
@@ -22,13 +22,13 @@ batches_of (Roll header ∷ steps) = batches_of steps
 
 -- A store stands for a history that a life leaves after another history, and perhaps for a batch
 -- that was not answered: with that batch too it is a history that the life leaves.
-pub record StandsAfter (config : Configuration) (opening : List BooksSeen) (counts : Counts)
-    (tears : List ℕ → List ℕ → Type 0) (end : End) (seen : List ℕ)
-    (may_leave : Ending → List ℕ → Type 0) (whole : ℕ) (books : List BooksSeen)
+pub record StandsAfter (config : Configuration) (opening : ServerSeen) (counts : Counts)
+    (table : List ℕ) (tears : List ℕ → List ℕ → Type 0) (end : End) (seen : List ℕ)
+    (may_leave : Ending → List ℕ → Type 0) (whole : ℕ) (books : ServerSeen)
     (history : List Move) (batches : List (List Move)) (outcomes : List Outcome) : Type 0 where
   pub left : List Move
   pub unanswered : List Move
-  pub stands : StandsFor config opening counts tears end seen may_leave whole books left unanswered
+  pub stands : StandsFor config opening counts table tears end seen may_leave whole books left unanswered
   pub life : IsLife opening history batches outcomes left
   pub also : IsLife opening history batches outcomes (left ++ unanswered)
 
@@ -45,7 +45,7 @@ pub record IsLeft {L : Type 0} (seen : L → List ℕ) (may_leave : L → Ending
   pub settled : Only (seen log) (may_leave log)
 
 -- Logs have a history. Of two the newest counts if its snapshot is whole, and else the older one.
-abbrev pub HaveHistory : {L : Type 0} → (config : Configuration) → (opening : List BooksSeen)
+abbrev pub HaveHistory : {L : Type 0} → (config : Configuration) → (opening : ServerSeen)
     → (history : List Move) → (seen : L → List ℕ) → (older : Option L) → (newest : L) → Type 0
 HaveHistory config opening history seen None newest =
     HasHistory config opening history (seen newest)
@@ -53,9 +53,8 @@ HaveHistory config opening history seen (Some older) newest =
     HasHistory config opening history (seen newest)
     ⊎ (IsUnbegun (seen newest) × HasHistory config opening history (seen older))
 
--- logs have the history that a life left after another history, in an era that opened with these
--- books
-pub record HasLived {L : Type 0} (config : Configuration) (opening : List BooksSeen)
+-- logs have the history that a life left after another history, which opened with these books
+pub record HasLived {L : Type 0} (config : Configuration) (opening : ServerSeen)
     (history : List Move) (batches : List (List Move)) (told : Option (List Outcome))
     (seen : L → List ℕ) (older : Option L) (newest : L) : Type 0 where
   pub left : List Move
@@ -63,7 +62,7 @@ pub record HasLived {L : Type 0} (config : Configuration) (opening : List BooksS
   pub have : HaveHistory config opening left seen older newest
 
 -- logs have the history that lives left after another history
-pub record HaveLived {L : Type 0} (config : Configuration) (opening : List BooksSeen)
+pub record HaveLived {L : Type 0} (config : Configuration) (opening : ServerSeen)
     (history : List Move) (plans : List (List (List Move))) (told : List (Option (List Outcome)))
     (seen : L → List ℕ) (older : Option L) (newest : L) : Type 0 where
   pub left : List Move

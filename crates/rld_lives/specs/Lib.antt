@@ -1,8 +1,6 @@
 pub mod Choosing
-pub mod Counted
-pub mod Eras
+pub mod Within
 pub mod Leaving
 pub mod Life
 pub mod Lives
 pub mod Planned
-pub mod Shards

@@ -1,18 +1,13 @@
 -- Lives over a log: each opens what a crash left of the one before it, and answers its batches.
 use Rattle.std.specs.Prelude.{◌≡◌, ◌⊎◌, ℕ, Bool, List, [], ◌∷◌, ◌++◌, map, slice_get, Option, Some, None, Result, Ok, Err, IsErr}
-use Rattle.std.specs.List.{flat_map, list_any, AllByRecursion}
+use Rattle.std.specs.List.{list_any, AllByRecursion}
 use Rattle.rsl_event.specs.declared.event.Decision.{Decision}
-use Rattle.rsl_shard.specs.Restep.{BooksSeen}
 use Rattle.rsl_shard.specs.declared.line.Line.{Line}
 use Rattle.rsl_shard.specs.declared.moved.Move.{Move}
-use Rattle.rld_books.specs.Server.{decisions_of, journal_of, replay}
+use Rattle.rld_books.specs.Server.{ServerSeen, decisions_of, journal_of, replay}
 use Rattle.rld_store.specs.Recorded.{RecordedSeen, is_ended}
 use Rattle.rld_store.specs.declared.fault.RecordFault.{RecordFault}
 use Rattle.rld_store.specs.declared.fault.RecordFault.TheVariants.{Failed, Ended}
-
--- the moves of batches, one batch after another
-abbrev pub joined : List (List Move) → List Move
-joined batches = flat_map (λ (batch : List Move). batch) batches
 
 -- the result of a batch: the decisions on its moves, or that it was not recorded
 abbrev pub Outcome : Type 0
@@ -25,7 +20,7 @@ has_ended outcomes = list_any is_ended outcomes
 -- The results of batches, one after another, given the books before. A recorded batch has the
 -- decisions of the books, which then make its moves. A batch that was not recorded leaves the books
 -- as they are, and the next is tried, unless nothing more can be recorded.
-abbrev pub AreOutcomes : (server : List BooksSeen) → (batches : List (List Move))
+abbrev pub AreOutcomes : (server : ServerSeen) → (batches : List (List Move))
     → (outcomes : List Outcome) → Type 0
 AreOutcomes server [] outcomes = outcomes ≡ []
 AreOutcomes server (batch ∷ batches) [] = ⊥
@@ -54,7 +49,7 @@ MayBeLeft moves (batch ∷ batches) (Err fault ∷ outcomes) =
 -- A life after a history, of which the first life began with these books: its batches are decided
 -- by the books after all earlier moves, and the history that it leaves has the moves of those that
 -- were recorded, and perhaps those of another one that was not.
-pub record IsLife (begun : List BooksSeen) (history : List Move) (batches : List (List Move))
+pub record IsLife (begun : ServerSeen) (history : List Move) (batches : List (List Move))
     (outcomes : List Outcome) (left : List Move) : Type 0 where
   pub came_out : AreOutcomes (replay begun history) batches outcomes
   pub more : List Move
@@ -62,13 +57,13 @@ pub record IsLife (begun : List BooksSeen) (history : List Move) (batches : List
   pub left_is : left ≡ (history ++ recorded batches outcomes) ++ more
 
 -- `IsLife` of a life that may not have begun: then it tells nothing, and leaves the history
-abbrev pub IsLifeTold : (begun : List BooksSeen) → (history : List Move)
+abbrev pub IsLifeTold : (begun : ServerSeen) → (history : List Move)
     → (batches : List (List Move)) → (told : Option (List Outcome)) → (left : List Move) → Type 0
 IsLifeTold begun history batches None left = left ≡ history
 IsLifeTold begun history batches (Some outcomes) left = IsLife begun history batches outcomes left
 
 -- lives one after another, each after the history that the one before it left
-unfoldable pub AreLives : (begun : List BooksSeen) → (history : List Move)
+unfoldable pub AreLives : (begun : ServerSeen) → (history : List Move)
     → (plans : List (List (List Move))) → (told : List (Option (List Outcome)))
     → (left : List Move) → Type 0
 AreLives begun history [] [] left = left ≡ history
@@ -79,7 +74,7 @@ AreLives begun history [] (one ∷ told) left = ⊥
 AreLives begun history (batches ∷ plans) [] left = ⊥
 
 -- the journal of a history has the moves of a batch, in order, with these decisions
-pub record Stands (begun : List BooksSeen) (history batch : List Move) (answer : List Decision)
+pub record Stands (begun : ServerSeen) (history batch : List Move) (answer : List Decision)
     : Type 0 where
   pub before : List Line
   pub lines : List Line
@@ -92,7 +87,7 @@ pub record Stands (begun : List BooksSeen) (history batch : List Move) (answer :
 -- left, with the decisions that were answered.
 abbrev pub WhatIsAnsweredStands : Type 0
 WhatIsAnsweredStands =
-    (begun : List BooksSeen) (history left : List Move) (plans : List (List (List Move)))
+    (begun : ServerSeen) (history left : List Move) (plans : List (List (List Move)))
     (told : List (Option (List Outcome)))
     → AreLives begun history plans told left
     → (life n : ℕ) (batches : List (List Move)) (outcomes : List Outcome)

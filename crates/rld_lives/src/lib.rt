@@ -3,9 +3,7 @@
 //!
 //! `specs/Life.antt` says what a life answers and leaves, `specs/Leaving.antt` what a crash leaves
 //! of its logs, `specs/Choosing.antt` which of two logs counts, `specs/Lives.antt` what holds of the
-//! history of all lives, `specs/Counted.antt` that this holds of what lives have answered,
-//! `specs/Eras.antt` what holds in every era, and `specs/Shards.antt` which moves of the log are a
-//! shard's.
+//! history of all lives, and `specs/Within.antt` what holds whatever books it opened with.
 #![tactic(auto)]
 
 mod ending;

@@ -7,11 +7,11 @@ ghost use Rattle.rld_lives.specs.Leaving.{HasLived, HaveHistory, HaveLived, IsLe
 ghost use Rattle.rld_lives.specs.Life.{AreOutcomes, Outcome as OneOutcome, has_ended};
 ghost use Rattle.rld_lives.specs.Planned.{plans_of, told_of};
 ghost use Rattle.rld_lives.specs.declared.living.Plan.{Plan as OnePlan};
+ghost use Rattle.rld_books.specs.Server.{ServerSeen};
 ghost use Rattle.rld_store.specs.Premises.{Only, Premise};
 ghost use Rattle.rld_store.specs.Generations.{HasHistory, IsUnbegun};
 ghost use Rattle.rld_store.specs.Standing.{StandsFor};
 ghost use Rattle.rsl_accounts.specs.Configuration.{Configuration};
-ghost use Rattle.rsl_shard.specs.Restep.{BooksSeen};
 ghost use Rattle.rsl_shard.specs.declared.moved.Move.{Move as OneMove};
 ghost use Rattle.rld_log.specs.declared.log.Ending.{Ending as OneEnding};
 ghost use Rattle.std.specs.Global.{Vec as OneVec};
@@ -97,10 +97,10 @@ pub fn live<L: Crash + Drop>(
 
     // The store stands for what was recorded, and perhaps for another batch that was not, whole.
     ensures lived { IfOk result (λ outcomes. IsTrue (L.Log.tells store.new.log) →
-        (config : Configuration) (opening : List BooksSeen) (history : List OneMove) →
-        StandsFor config opening store.old.counts L.Log.tears store.old.end (L.Log.seen store.old.log)
+        (config : Configuration) (opening : ServerSeen) (history : List OneMove) →
+        StandsFor config opening store.old.counts store.old.table.items L.Log.tears store.old.end (L.Log.seen store.old.log)
         (L.Log.may_leave store.old.log) store.old.whole store.old.books history [] →
-        StandsAfter config opening store.new.counts L.Log.tears store.new.end (L.Log.seen store.new.log)
+        StandsAfter config opening store.new.counts store.new.table.items L.Log.tears store.new.end (L.Log.seen store.new.log)
         (L.Log.may_leave store.new.log) store.new.whole store.new.books
         history (batches_of steps.items) outcomes.items) }
 {
@@ -131,12 +131,12 @@ fn roll_on<L: Crash + Drop>(alloc: Global, store: &mut Store<L>, header: Header)
 
     // The store stands for the same history.
     ensures stands { IsTrue (L.Log.tells store.new.log) →
-        (config : Configuration) (opening : List BooksSeen) (history unanswered : List OneMove) →
-        StandsFor config opening store.old.counts L.Log.tears store.old.end (L.Log.seen store.old.log)
+        (config : Configuration) (opening : ServerSeen) (history unanswered : List OneMove) →
+        StandsFor config opening store.old.counts store.old.table.items L.Log.tears store.old.end (L.Log.seen store.old.log)
         (L.Log.may_leave store.old.log) store.old.whole store.old.books history unanswered →
-        StandsFor config opening store.new.counts L.Log.tears store.new.end (L.Log.seen store.new.log)
+        StandsFor config opening store.new.counts store.new.table.items L.Log.tears store.new.end (L.Log.seen store.new.log)
         (L.Log.may_leave store.new.log) store.new.whole store.new.books history unanswered
-        ⊎ StandsFor config opening store.new.counts L.Log.tears store.new.end (L.Log.seen store.new.log)
+        ⊎ StandsFor config opening store.new.counts store.new.table.items L.Log.tears store.new.end (L.Log.seen store.new.log)
         (L.Log.may_leave store.new.log) store.new.whole store.new.books history [] }
 {
     let Ok(next) = store.log().next_log(alloc) else {
@@ -154,8 +154,8 @@ fn live_on<L: Crash + Drop>(alloc: Global, store: Store<L>, plan: Plan) -> Resul
         OfEach (IsLeft L.Log.seen L.Log.may_leave plan.ending) begun.logs.older begun.logs.newest) }
     ensures lived { IfOk result (λ begun. OfEach (λ log. IsTrue (L.Log.tells log)) begun.logs.older begun.logs.newest →
         Premise L.Log.tears plan.ending →
-        (config : Configuration) (opening : List BooksSeen) (history : List OneMove) →
-        StandsFor config opening store.counts L.Log.tears store.end (L.Log.seen store.log)
+        (config : Configuration) (opening : ServerSeen) (history : List OneMove) →
+        StandsFor config opening store.counts store.table.items L.Log.tears store.end (L.Log.seen store.log)
         (L.Log.may_leave store.log) store.whole store.books history [] →
         HasLived config opening history (batches_of plan.steps.items) (Some begun.told.items)
         L.Log.seen begun.logs.older begun.logs.newest) }
@@ -191,14 +191,14 @@ fn live_in<L: Crash + Drop>(
         OfEach (IsLeft L.Log.seen L.Log.may_leave plan.ending) begun.logs.older begun.logs.newest) }
     ensures lived { IfOk result (λ begun. OfEach (λ log. IsTrue (L.Log.tells log)) begun.logs.older begun.logs.newest →
         Premise L.Log.tears plan.ending →
-        (opening : List BooksSeen) (history : List OneMove) →
+        (opening : ServerSeen) (history : List OneMove) →
         HasHistory config.now opening history (L.Log.seen log) →
         HasLived config.now opening history (batches_of plan.steps.items) (Some begun.told.items)
         L.Log.seen begun.logs.older begun.logs.newest) }
 
     // A crash of the log that was handed back leaves the same history.
     ensures kept { IfErr result (λ left. IsTrue (L.Log.tells left) → Only (L.Log.seen log) (L.Log.may_leave log) →
-        (opening : List BooksSeen) (history : List OneMove) →
+        (opening : ServerSeen) (history : List OneMove) →
         HasHistory config.now opening history (L.Log.seen log) →
         (ending : OneEnding) → Premise L.Log.tears ending →
         (file : List ℕ) → L.Log.may_leave left ending file →
@@ -228,7 +228,7 @@ fn live_alone<L: Crash + Drop>(alloc: Global, config: &Config, log: L, plan: Pla
         OfEach (IsLeft L.Log.seen L.Log.may_leave plan.ending) result.logs.older result.logs.newest }
     ensures lived { OfEach (λ log. IsTrue (L.Log.tells log)) result.logs.older result.logs.newest →
         Only (L.Log.seen log) (L.Log.may_leave log) → Premise L.Log.tears plan.ending →
-        (opening : List BooksSeen) (history : List OneMove) →
+        (opening : ServerSeen) (history : List OneMove) →
         HasHistory config.now opening history (L.Log.seen log) →
         HasLived config.now opening history (batches_of plan.steps.items)
         (option_map (λ (outcomes : OneVec OneOutcome). outcomes.items) result.told)
@@ -272,7 +272,7 @@ fn live_beside<L: Crash + Drop>(
         OfEach (λ log. IsTrue (L.Log.tells log)) result.logs.older result.logs.newest →
         OfEach (λ log. Only (L.Log.seen log) (L.Log.may_leave log)) (Some older) newest →
         Premise L.Log.tears plan.ending →
-        (opening : List BooksSeen) (history : List OneMove) →
+        (opening : ServerSeen) (history : List OneMove) →
         HaveHistory config.now opening history L.Log.seen (Some older) newest →
         HasLived config.now opening history (batches_of plan.steps.items)
         (option_map (λ (outcomes : OneVec OneOutcome). outcomes.items) result.told)
@@ -315,7 +315,7 @@ fn not_begun<L: Crash + Drop>(older: L, newest: L, ending: Ending) -> OneLife<L>
     ensures are_left { OfEach (λ log. IsTrue (L.Log.tells log)) result.logs.older result.logs.newest →
         OfEach (IsLeft L.Log.seen L.Log.may_leave ending) result.logs.older result.logs.newest }
     ensures have { OfEach (λ log. IsTrue (L.Log.tells log)) result.logs.older result.logs.newest →
-        (config : Configuration) (opening : List BooksSeen) (history : List OneMove) →
+        (config : Configuration) (opening : ServerSeen) (history : List OneMove) →
         ((old new : List ℕ) → L.Log.may_leave older ending old → L.Log.may_leave newest ending new →
         HasHistory config opening history new ⊎ (IsUnbegun new × HasHistory config opening history old)) →
         HaveHistory config opening history L.Log.seen result.logs.older result.logs.newest }
@@ -347,7 +347,7 @@ fn live_over<L: Crash + Drop>(
         OfEach (λ log. IsTrue (L.Log.tells log)) result.logs.older result.logs.newest →
         OfEach (λ log. Only (L.Log.seen log) (L.Log.may_leave log)) logs.older logs.newest →
         Premise L.Log.tears plan.ending →
-        (opening : List BooksSeen) (history : List OneMove) →
+        (opening : ServerSeen) (history : List OneMove) →
         HaveHistory config.now opening history L.Log.seen logs.older logs.newest →
         HasLived config.now opening history (batches_of plan.steps.items)
         (option_map (λ (outcomes : OneVec OneOutcome). outcomes.items) result.told)
@@ -392,7 +392,7 @@ pub fn lives<L: Crash + Drop>(
         OfEach (λ log. IsTrue (L.Log.tells log)) lived.logs.older lived.logs.newest →
         OfEach (λ log. Only (L.Log.seen log) (L.Log.may_leave log)) logs.older logs.newest →
         All (λ plan. Premise L.Log.tears plan.ending) plans.items →
-        (opening : List BooksSeen) (history : List OneMove) →
+        (opening : ServerSeen) (history : List OneMove) →
         HaveHistory config.now opening history L.Log.seen logs.older logs.newest →
         HaveLived config.now opening history (plans_of plans.items) (told_of lived.told.items)
         L.Log.seen lived.logs.older lived.logs.newest) }

@@ -1,5 +1,4 @@
 ghost use Rattle.std.specs.Prelude.{◌≡◌, IfOk};
-ghost use Rattle.std.specs.List.Sorted.{IsNonDecreasingBy, IsPermutation};
 ghost use Rattle.rld_look.specs.Accounts.{AreFullest, free, held_in, look_of, looks_of};
 
 use crate::look::{AccountLook, AccountsLook};
@@ -17,8 +16,8 @@ const _: () = prove!(MOST_FULLEST == 50);
 const ALL: u64 = 1_000_000;
 
 impl AccountsLook {
-    /// What each account holds, in file order, from the rows of all shards in the second `now`
-    /// since 1970. A row of no account is skipped. It fails only if memory is refused.
+    /// What each account holds in the second `now` since 1970, in the order of the rows. A row of no
+    /// account is skipped. It fails only if memory is refused.
     pub fn of(
         alloc: Global,
         now: u64,
@@ -26,18 +25,14 @@ impl AccountsLook {
         rows: &[Row],
     ) -> Result<AccountsLook, NoMemory>
         ensures now { IfOk result (λ look. look.now ≡ now) }
-        ensures rows { IfOk result (λ look.
-            IsPermutation (looks_of config.now rows.now) look.accounts.items) }
-        ensures order { IfOk result (λ look.
-            IsNonDecreasingBy (λ account. account.row.account) look.accounts.items) }
+        ensures rows { IfOk result (λ look. look.accounts.items ≡ looks_of config.now rows.now) }
     {
-        let mut accounts = looks_of(alloc, config, rows)?;
-        accounts.sort_unstable_by_key(|account| account.row.account);
+        let accounts = looks_of(alloc, config, rows)?;
         Ok(AccountsLook { now, accounts })
     }
 }
 
-/// What the fullest accounts hold, at most `MOST_FULLEST` of them, from the rows of all shards:
+/// What the fullest accounts hold, at most `MOST_FULLEST` of them, from the rows of all:
 /// first the account with the smallest part of its places free, and of several with as much the
 /// first in the file. A row of no account is skipped. It fails only if memory is refused.
 pub fn fullest_looks(

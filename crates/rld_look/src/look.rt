@@ -18,8 +18,6 @@ pub struct Look {
     pub start: u64,
     /// The second of the look.
     pub now: u64,
-    /// The number of its era.
-    pub era: u64,
     /// The number of the generation that it writes.
     pub generation: u64,
     /// The number of moves of that generation.

@@ -31,19 +31,18 @@ unfoldable pub since_text : (dates : ℕ → List ℕ) → (start : ℕ) → Lis
 since_text dates start = codes "<p class=\"since\">since <time>" ++ (date_text dates start ++ codes "</time> ")
 
 -- what the server writes
-unfoldable pub written_text : (era generation moves : ℕ) → List ℕ
-written_text era generation moves =
+unfoldable pub written_text : (generation moves : ℕ) → List ℕ
+written_text generation moves =
     middle_dot
-    ++ (codes " era " ++ (decimal era
-    ++ (codes ", generation " ++ (decimal generation
-    ++ (codes ", " ++ (grouped moves ++ codes " moves</p></header>\n"))))))
+    ++ (codes " generation " ++ (decimal generation
+    ++ (codes ", " ++ (grouped moves ++ codes " moves</p></header>\n"))))
 
 unfoldable pub state_of : (dates : ℕ → List ℕ) → Look → List ℕ
 state_of dates look =
     codes "<header><h1>radlimitd</h1>"
     ++ (recording_mark look.recording
     ++ (clock_mark look.clock_behind
-    ++ (since_text dates look.start ++ written_text look.era look.generation look.moves)))
+    ++ (since_text dates look.start ++ written_text look.generation look.moves)))
 
 -- ---- the numbers
 

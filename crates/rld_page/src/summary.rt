@@ -21,7 +21,7 @@ pub(crate) fn write_state(html: &mut Html, look: &Look) -> Result<(), AllocError
     write_recording(html, look.recording)?;
     write_clock(html, look.clock_behind)?;
     write_since(html, look.start)?;
-    write_written(html, look.era, look.generation, look.moves)?;
+    write_written(html, look.generation, look.moves)?;
     Ok(())
 }
 
@@ -73,13 +73,11 @@ fn write_since(html: &mut Html, start: u64) -> Result<(), AllocError>
 
 /// Writes what the server writes.
 #[tactic(auto, unfolding(crate::specs::Summary::written_text))]
-fn write_written(html: &mut Html, era: u64, generation: u64, moves: u64) -> Result<(), AllocError>
-    ensures { OnOk result (html.new ≡ html.old ++ written_text era generation moves) }
+fn write_written(html: &mut Html, generation: u64, moves: u64) -> Result<(), AllocError>
+    ensures { OnOk result (html.new ≡ html.old ++ written_text generation moves) }
 {
     html.markup("·")?;
-    html.markup(" era ")?;
-    html.number(era)?;
-    html.markup(", generation ")?;
+    html.markup(" generation ")?;
     html.number(generation)?;
     html.markup(", ")?;
     html.grouped(moves)?;

@@ -7,7 +7,7 @@ use Rattle.rld_ask.specs.declared.asked.Answer.{Answer as AskAnswer}
 use Rattle.rld_ask.specs.declared.outcome.Outcome.{Outcome}
 use Rattle.rld_ask.specs.declared.outcome.Outcome.TheVariants as outcomes
 use Rattle.rsl_accounts.specs.Configuration.{Configuration, account_number}
-use Rattle.rsl_shard.specs.Restep.{BooksSeen}
+use Rattle.rld_books.specs.Server.{ServerSeen}
 use Rattle.rld_state.specs.Listing.{AreHeldFrom}
 use Rattle.rld_state.specs.declared.listing.LinksPage.{LinksPage}
 use Rattle.rld_control.specs.declared.form.Form.{Form}
@@ -74,7 +74,7 @@ begins_at config (Some name) = account_number config name
 
 -- such a page, of some books
 pub record IsPageFrom (config : Configuration) (from : Option (List ℕ)) (page : LinksPage) : Type 0 where
-  pub books : List BooksSeen
+  pub books : ServerSeen
   pub first : ℕ
   pub begins : begins_at config from ≡ Some first
   pub held : AreHeldFrom books first page.held.items

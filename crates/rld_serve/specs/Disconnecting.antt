@@ -9,7 +9,7 @@ use Rattle.rld_control.specs.declared.fault.FreeFault.TheVariants.{UnknownAccoun
 use Rattle.rld_control.specs.declared.named.NamedSession.{NamedSession}
 use Rattle.rld_control.specs.declared.answer.DisconnectAnswer.{DisconnectAnswer}
 use Rattle.rld_control.specs.declared.answer.DisconnectAnswer.TheVariants.{Ack, Nak}
-use Rattle.rsl_shard.specs.Restep.{BooksSeen}
+use Rattle.rld_books.specs.Server.{ServerSeen}
 use Rattle.rld_state.specs.Disconnecting.{GoesTo}
 use Rattle.rld_state.specs.Freeing.{WasFreed}
 use Rattle.rld_state.specs.declared.freeing.Freed.{Freed}
@@ -20,7 +20,7 @@ use Rattle.rld_serve.specs.declared.ask_fault.AskFault.TheVariants.{NoMemory}
 
 -- the request for a session went to this port, by these accounts and some books
 pub record WentTo (config : Configuration) (named : NamedSession) (port : ℕ) : Type 0 where
-  pub books : List BooksSeen
+  pub books : ServerSeen
   pub goes : GoesTo config books named (Ok port)
 
 -- Once the access server has disconnected a session its place is free where its Stop is recorded, or no link is

@@ -1,7 +1,7 @@
 -- Why a command is not done.
 use Rattle.std.specs.Prelude.{◌≡◌, ⊤, ℕ, List, Option, Some, None, Err}
 use Rattle.rsl_accounts.specs.Configuration.{Configuration, account_number, client_number}
-use Rattle.rsl_shard.specs.Restep.{BooksSeen}
+use Rattle.rld_books.specs.Server.{ServerSeen}
 use Rattle.rld_control.specs.declared.disconnected.DisconnectFault.{DisconnectFault}
 use Rattle.rld_control.specs.declared.fault.FreeFault.{FreeFault}
 use Rattle.rld_control.specs.declared.fault.FreeFault.TheVariants.{UnknownAccount, UnknownClient}
@@ -56,7 +56,7 @@ IsWhyNoPage from _ = ⊥
 -- the request for a session went nowhere for this reason, by some accounts and books
 pub record WentNowhere (named : NamedSession) (fault : DisconnectFault) : Type 0 where
   pub config : Configuration
-  pub books : List BooksSeen
+  pub books : ServerSeen
   pub goes : GoesTo config books named (Err fault)
 
 -- why no access server is asked to disconnect a session

@@ -2,7 +2,6 @@
 
 ghost use Rattle.std.specs.Prelude.{◌≡◌, ◌<◌, ◌^◌, IfOk, IfSome, length, option_and_then, slice_get, ℕ};
 ghost use Rattle.std.specs.Arc.{arc_value};
-ghost use Rattle.std.specs.List.Sorted.{IsNonDecreasingBy, IsPermutation};
 ghost use Rattle.rld_books.specs.Saved.{rows_in};
 ghost use Rattle.rld_look.specs.Accounts.{AreFullest, held_in, looks_of};
 ghost use Rattle.rld_look.specs.Clients.{IsClientLook};
@@ -91,13 +90,11 @@ impl Holdings {
 
     /// Where the server stands.
     pub(crate) fn standing(&self) -> Standing
-        ensures era { result.era ≡ self.now.header.era }
         ensures generation { result.generation ≡ self.now.header.generation }
         ensures sessions { sessions_in self.now.rows.items < 2 ^ 64 →
             result.sessions ≡ sessions_in self.now.rows.items }
     {
         Standing {
-            era: self.header.era,
             generation: self.header.generation,
             sessions: sessions_in(self.rows.as_slice()),
         }
@@ -114,10 +111,8 @@ impl Holdings {
     /// What the accounts hold, in the second `moment` since 1970. It fails only if memory is refused.
     pub(crate) fn accounts_look(&self, alloc: Global, moment: u64) -> Result<AccountsLook, NoMemory>
         ensures now { IfOk result (λ look. look.now ≡ moment) }
-        ensures rows { IfOk result (λ look. IsPermutation
-            (looks_of (arc_value self.now.config) self.now.rows.items) look.accounts.items) }
-        ensures order { IfOk result (λ look.
-            IsNonDecreasingBy (λ account. account.row.account) look.accounts.items) }
+        ensures rows { IfOk result (λ look.
+            look.accounts.items ≡ looks_of (arc_value self.now.config) self.now.rows.items) }
     {
         AccountsLook::of(alloc, moment, &*self.config, self.rows.as_slice())
     }
@@ -135,7 +130,6 @@ impl Holdings {
         ensures rest { IfOk result (λ look. rest_of look ≡ rest) }
 
         // What the store shows.
-        ensures era { IfOk result (λ look. look.era ≡ self.header.era) }
         ensures generation { IfOk result (λ look. look.generation ≡ self.header.generation) }
         ensures moves { IfOk result (λ look. look.moves ≡ self.moves) }
         ensures memory { IfOk result (λ look.
@@ -169,7 +163,6 @@ impl Holdings {
             build,
             start: rest.start,
             now: rest.moment,
-            era: header.era,
             generation: header.generation,
             moves,
             memory: books_octets(config),

@@ -1,26 +1,34 @@
 //! Reading the accounts of a running server again.
 
-ghost use Rattle.std.specs.Prelude.{◌≡◌, ◌⊎◌, ℕ, All, IfErr, IfNone, IfOk, IfSome, IsErrOf, OnErr, OnOk, length, map};
+ghost use Rattle.std.specs.Prelude.{◌≡◌, ◌⊎◌, All, IfErr, IfNone, IfOk, IfSome, IsErrOf, OnErr, OnOk, length, map};
 ghost use Rattle.std.specs.Arc.{arc_value};
 ghost use Rattle.rld_spelling.specs.Tables.{client_row, table_of};
-ghost use Rattle.rld_start.specs.NextHeaders.{generation_named};
-ghost use Rattle.rld_state.specs.Headers.{IsHeaderOf};
 ghost use Rattle.rld_serve.specs.Answering.{IsDone, IsRefused, TellsChange};
 ghost use Rattle.rld_serve.specs.declared.ask_fault.AskFault.TheVariants.{NoMemory};
 
 use crate::accounts::{Accounts, AccountsFault};
 use crate::ask_fault::AskFault;
 use crate::server::Server;
+use rld_books::BlankBooks;
 use rld_control::Reply;
 use rld_counts::ClientCounts;
 use rld_current::Current;
 use rld_log::{FileLog, PacedLog};
-use rld_start::{Generations, NextEra, has_same_clients, is_same_era};
+use rld_start::{Generations, NextLog, has_same_clients, has_same_table};
 use rld_state::{ReloadFault, Reloaded, RollFault, Told};
 use rld_store::Store;
 use rsl_accounts::Config;
 use std::sync::{Arc, Wait};
 use std::{fmt, time};
+
+/// What a change of the accounts needs that is not quickly made.
+#[derive(Drop)]
+struct Prepared {
+    /// The log of the next generation, which is empty.
+    log: NextLog<FileLog>,
+    /// Blank books of the accounts that were read.
+    blanks: BlankBooks,
+}
 
 /// What is prepared before the receivers wait, so that they wait only shortly.
 #[derive(Drop)]
@@ -29,8 +37,8 @@ struct Change {
     config: Arc<Config>,
     /// Another handle to these, for the state.
     held: Arc<Config>,
-    /// The files of their era, if the present one does not go on.
-    next: Option<NextEra<FileLog>>,
+    /// What a change of the table needs, if they have another one.
+    next: Option<Prepared>,
     /// Counts for their clients, if these have changed.
     counts: Option<Vec<ClientCounts>>,
 }
@@ -39,7 +47,7 @@ struct Change {
 #[derive(Drop)]
 struct Changed<'a> {
     reloaded: Reloaded,
-    /// The store of the era that has ended, if one has.
+    /// The store of the former accounts, if the table has changed.
     former: Option<Store<PacedLog<'a, FileLog>>>,
 }
 
@@ -49,9 +57,9 @@ where
     A: Accounts,
     R: time::Clock + Wait,
 {
-    /// Reads the accounts again, and goes on with them: within the present era if it has their
-    /// table, and else in a new one. Gives the answer to the operator. If it is `error`, nothing
-    /// has changed. Where the disk has no room for a new era, the worker that makes ticks is asked for some.
+    /// Reads the accounts again, and goes on with them. Gives the answer to the operator. If it is
+    /// `error`, nothing has changed. Where the disk has no room for the change, the worker that makes
+    /// ticks is asked for some.
     pub(crate) fn reload(&self) -> Result<Vec<u8>, AskFault>
         ensures told { IfOk result (λ octets. IsDone octets.items ⊎ IsRefused octets.items) }
         ensures fault { IfErr result (λ fault. fault ≡ NoMemory) }
@@ -70,7 +78,7 @@ where
         self.told_change(changed)
     }
 
-    /// The answer once accounts were read: with what era they go on, or why they are as they were.
+    /// The answer once accounts were read: what has changed, or why they are as they were.
     fn told_change(&self, changed: Result<Reloaded, ReloadFault>) -> Result<Vec<u8>, AskFault>
         ensures told { IfOk result (λ octets. TellsChange changed octets.items) }
         ensures fault { IfErr result (λ fault. fault ≡ NoMemory) }
@@ -93,9 +101,18 @@ where
         self.told(Reply::Refused(why.as_bytes()))
     }
 
-    /// Goes on with other accounts. What is left of the former accounts and of a former era is
-    /// dropped once the receivers go on: a handle to the accounts is held until then.
+    /// Goes on with these accounts. Where another generation begins meanwhile it is tried once more.
     fn change_accounts(&self, config: Config) -> Result<Reloaded, ReloadFault> {
+        let config = Arc::new(self.alloc, config)?;
+        match self.try_change(&config) {
+            Err(ReloadFault::NotBegun(RollFault::Former)) => self.try_change(&config),
+            changed => changed,
+        }
+    }
+
+    /// Goes on with these accounts. What is left of the former ones is dropped once the receivers go
+    /// on: a handle to the accounts is held until then.
+    fn try_change(&self, config: &Arc<Config>) -> Result<Reloaded, ReloadFault> {
         let accounts = self.state.lock(self.rt).config()?;
         let change = self.change_to(&*accounts, config)?;
         let Changed { reloaded, former } = self.do_change(change)?;
@@ -105,35 +122,31 @@ where
     }
 
     /// Prepares a change from these accounts to other ones.
-    fn change_to(&self, former: &Config, config: Config) -> Result<Change, ReloadFault>
+    fn change_to(&self, former: &Config, config: &Arc<Config>) -> Result<Change, ReloadFault>
         ensures fault { IsErrOf result ReloadFault.Changed → ⊥ }
-        ensures config { IfOk result (λ change. arc_value change.config ≡ config) }
-        ensures held { IfOk result (λ change. arc_value change.held ≡ config) }
-        ensures table { IfOk result (λ change. IfSome change.next
-            (λ next. IsHeaderOf self.now.plan.boot (arc_value change.held) next.header)) }
-        ensures kept { IfOk result (λ change. IfSome change.next
-            (λ next. next.key.generation ≡ generation_named next.header)) }
-        ensures goes_on { IfOk result (λ change. (boot : ℕ) →
-            IfNone change.next (table_of boot former.now ≡ table_of boot config)) }
-        ensures begins { IfOk result (λ change. (boot : ℕ) →
-            IfSome change.next (λ _. table_of boot former.now ≡ table_of boot config → ⊥)) }
+        ensures config { IfOk result (λ change. arc_value change.config ≡ arc_value config.now) }
+        ensures held { IfOk result (λ change. arc_value change.held ≡ arc_value config.now) }
+        ensures goes_on { IfOk result (λ change.
+            IfNone change.next (table_of former.now ≡ table_of (arc_value config.now))) }
+        ensures begins { IfOk result (λ change.
+            IfSome change.next (λ _. table_of former.now ≡ table_of (arc_value config.now) → ⊥)) }
         ensures counts { IfOk result (λ change. IfSome change.counts
             (λ each. length each.items ≡ length self.now.board.places.items)) }
         ensures clients { IfOk result (λ change. IfSome change.counts
-            (λ each. All (λ one. one ≡ length config.clients) each.items)) }
+            (λ each. All (λ one. one ≡ length (arc_value config.now).clients) each.items)) }
         ensures recounts { IfOk result (λ change. IfSome change.counts
-            (λ _. map client_row former.now.clients ≡ map client_row config.clients → ⊥)) }
+            (λ _. map client_row former.now.clients ≡ map client_row (arc_value config.now).clients → ⊥)) }
         ensures counts_on { IfOk result (λ change. IfNone change.counts
-            (map client_row former.now.clients ≡ map client_row config.clients)) }
+            (map client_row former.now.clients ≡ map client_row (arc_value config.now).clients)) }
     {
-        let config = Arc::new(self.alloc, config)?;
+        let config = Arc::try_clone(config)?;
         let held = Arc::try_clone(&config)?;
         let counts = if has_same_clients(former, &*config) {
             None
         } else {
             Some(self.board.counts_for(self.alloc, config.clients())?)
         };
-        let next = self.next_era_after(former, &*config)?;
+        let next = self.prepared_for(former, &*config)?;
         Ok(Change {
             config,
             held,
@@ -142,47 +155,25 @@ where
         })
     }
 
-    /// Makes the files of the era of these accounts, unless that of the former ones goes on with them.
-    fn next_era_after(
-        &self,
-        former: &Config,
-        config: &Config,
-    ) -> Result<Option<NextEra<FileLog>>, RollFault>
-        ensures table { IfOk result (λ found. IfSome found (λ next.
-            IsHeaderOf self.now.plan.boot config.now next.header)) }
-        ensures kept { IfOk result (λ found. IfSome found (λ next.
-            next.key.generation ≡ generation_named next.header)) }
-        ensures goes_on { IfOk result (λ found. (boot : ℕ) →
-            IfNone found (table_of boot former.now ≡ table_of boot config.now)) }
-        ensures begins { IfOk result (λ found. (boot : ℕ) →
-            IfSome found (λ _. table_of boot former.now ≡ table_of boot config.now → ⊥)) }
+    /// What a change to these accounts needs, unless they have the table of the former ones.
+    fn prepared_for(&self, former: &Config, config: &Config) -> Result<Option<Prepared>, RollFault>
+        ensures goes_on { IfOk result (λ found.
+            IfNone found (table_of former.now ≡ table_of config.now)) }
+        ensures begins { IfOk result (λ found.
+            IfSome found (λ _. table_of former.now ≡ table_of config.now → ⊥)) }
     {
-        if is_same_era(former, config) {
+        if has_same_table(former, config) {
             return Ok(None);
         }
-        Ok(Some(self.next_era(config)?))
-    }
-
-    /// Makes the files of the era of these accounts, after the present one.
-    fn next_era(&self, config: &Config) -> Result<NextEra<FileLog>, RollFault>
-        ensures table { IfOk result (λ next.
-            IsHeaderOf self.now.plan.boot config.now next.header) }
-        ensures kept { IfOk result (λ next. next.key.generation ≡ generation_named next.header) }
-    {
-        let era = self.state.lock(self.rt).header().era;
-        Ok(
-            self.generations
-                .next_era(self.alloc, era, config, self.plan.boot)?,
-        )
+        let present = self.state.lock(self.rt).header().generation;
+        let blanks = BlankBooks::new(self.alloc, config)?;
+        let log = self.generations.next_log(self.alloc, present)?;
+        Ok(Some(Prepared { log, blanks }))
     }
 
     /// Makes a change, between the turns of all receivers.
     fn do_change(&self, change: Change) -> Result<Changed<'a>, ReloadFault>
         requires same { arc_value change.config ≡ arc_value change.held }
-        requires table { IfSome change.next
-            (λ next. IsHeaderOf self.now.plan.boot (arc_value change.held) next.header) }
-        requires kept { IfSome change.next
-            (λ next. next.key.generation ≡ generation_named next.header) }
         requires counts { IfSome change.counts
             (λ each. length each.items ≡ length self.now.board.places.items) }
     {
@@ -198,14 +189,9 @@ where
         change: Change,
     ) -> Result<Changed<'a>, ReloadFault>
         requires same { arc_value change.config ≡ arc_value change.held }
-        requires table { IfSome change.next
-            (λ next. IsHeaderOf self.now.plan.boot (arc_value change.held) next.header) }
-        requires kept { IfSome change.next
-            (λ next. next.key.generation ≡ generation_named next.header) }
         requires counts { IfSome change.counts
             (λ each. length each.items ≡ length self.now.board.places.items) }
         ensures config { OnOk result (current.new.config ≡ change.config) }
-        ensures header { IfSome change.next (λ next. OnOk result (current.new.header ≡ next.header)) }
         ensures err { OnErr result (current.new ≡ current.old) }
         ensures goes_on { IfNone change.next (IfErr result (λ fault. fault ≡ ReloadFault.Changed)) }
         ensures begins { IfSome change.next (λ _. IsErrOf result ReloadFault.Changed → ⊥) }
@@ -224,43 +210,35 @@ where
         Ok(changed)
     }
 
-    /// Goes on with other accounts, in the era whose files were made for them, or in the present
-    /// one if there are none. Gives what is present then, by another handle to them.
+    /// Goes on with other accounts, with what was prepared for them, or with the present table if
+    /// nothing was. Gives what is present then, by another handle to them.
     fn go_on_by(
         &self,
         config: Arc<Config>,
         other: Arc<Config>,
-        next: Option<NextEra<FileLog>>,
+        next: Option<Prepared>,
     ) -> Result<(Changed<'a>, Current), ReloadFault>
-        requires same { arc_value other ≡ arc_value config }
-        requires table { IfSome next
-            (λ next. IsHeaderOf self.now.plan.boot (arc_value config) next.header) }
-        requires kept { IfSome next (λ next. next.key.generation ≡ generation_named next.header) }
+        requires { arc_value other ≡ arc_value config }
         ensures config { IfOk result (λ changed. changed.1.config ≡ other) }
-        ensures boot { IfSome next (λ _. IfOk result (λ changed.
-            changed.1.boot ≡ self.now.plan.boot)) }
-        ensures header { IfSome next (λ next. IfOk result (λ changed.
-            changed.1.header ≡ next.header)) }
         ensures goes_on { IfNone next (IfErr result (λ fault. fault ≡ ReloadFault.Changed)) }
         ensures begins { IfSome next (λ _. IsErrOf result ReloadFault.Changed → ⊥) }
     {
         let mut state = self.state.lock(self.rt);
-        let Some(next) = next else {
-            let Some(reloaded) = state.go_on(config) else {
+        let Some(Prepared { log, blanks }) = next else {
+            if !state.go_on(config) {
                 return Err(ReloadFault::Changed);
-            };
+            }
             let changed = Changed {
-                reloaded,
+                reloaded: Reloaded::AsBefore,
                 former: None,
             };
             return Ok((changed, Current::of(&*state, other)));
         };
-        let next = next.paced(self.plan.pacing);
-        let boot = self.plan.boot;
-        let entered = state.begin_era(self.alloc, self.generations, config, boot, next)?;
+        let log = log.paced(self.plan.pacing);
+        let done = state.change(self.alloc, self.generations, config, log, blanks)?;
         let changed = Changed {
-            reloaded: Reloaded::Begun(entered.change),
-            former: Some(entered.former),
+            reloaded: Reloaded::Changed(done.change),
+            former: Some(done.former),
         };
         Ok((changed, Current::of(&*state, other)))
     }

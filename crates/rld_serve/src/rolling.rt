@@ -8,7 +8,7 @@ ghost use Rattle.rld_state.specs.Due.{IsDue, just_begun, second_later};
 use crate::accounts::Accounts;
 use crate::server::Server;
 use rld_edges::RunFault;
-use rld_start::{Generations, Written, generation_named};
+use rld_start::{Generations, Written};
 use rld_state::{
     Notice, RollFault, RollTimer, Told, Trouble, archive_look, notice_of_archive, notice_of_roll,
 };
@@ -111,7 +111,7 @@ where
 
     /// Begins the next generation. Its log is made before the lock is taken.
     fn roll(&self) -> Result<(), RollFault> {
-        let present = generation_named(&self.state.lock(self.rt).header());
+        let present = self.state.lock(self.rt).header().generation;
         let next = self.generations.next_log(self.alloc, present)?;
         let next = next.paced(self.plan.pacing);
         let mut state = self.state.lock(self.rt);

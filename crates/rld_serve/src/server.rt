@@ -4,8 +4,7 @@ ghost use Rattle.rld_books.specs.Saved.{IsServerOf};
 ghost use Rattle.rld_edges.specs.Fault.{fault_in, gravest};
 ghost use Rattle.rld_edges.specs.Jobs.{port_of};
 ghost use Rattle.rld_edges.specs.declared.fault.RunFault.TheVariants.{Unsynced};
-ghost use Rattle.rld_start.specs.NextHeaders.{generation_named};
-ghost use Rattle.rld_state.specs.Headers.{IsHeaderOf};
+ghost use Rattle.rld_store.specs.Generations.{octets_of};
 ghost use Rattle.rld_counts.specs.Fates.{gate_of};
 ghost use Rattle.rld_serve.specs.Fitting.{AreFit};
 
@@ -53,8 +52,6 @@ pub struct Plan<'a> {
     pub names: &'a Dictionary,
     /// The networks that stand for its clients.
     pub networks: &'a [Network],
-    /// The boot number of its Classes.
-    pub boot: u64,
     /// The second of its start, since 1970: the moment if the clock cannot be read.
     pub start: u64,
     /// When its logs are synced to the disk, and the ticks that it makes.
@@ -106,8 +103,8 @@ pub(crate) struct Server<'a, G, A, R> {
 /// On an operator's request the accounts are read again (`reload`), between the turns of all
 /// receivers. What comes meanwhile waits in the sockets' buffers.
 ///
-/// The store's books are of these accounts, and its header has the digest of their table under the plan's
-/// boot number; it has no move yet. `key` is the right to remove its log.
+/// The store's books and its table are of these accounts; it has no move yet. `key` is the right to remove
+/// its log.
 /// The plan's networks are those of the file that `accounts` are read again by, and fit these accounts.
 ///
 /// `greeting` is written to standard error once all workers have started, and a last line where an operator
@@ -148,8 +145,8 @@ where
         + Wait
         + Sync,
     requires server { IsServerOf config store.books }
-    requires table { IsHeaderOf plan.boot config store.header }
-    requires kept { key.generation ≡ generation_named store.header }
+    requires table { store.table.items ≡ octets_of config }
+    requires kept { key.generation ≡ store.header.generation }
     requires networks { A.networks accounts.now ≡ plan.networks.now }
     requires fit { AreFit plan.networks.now config }
 {
@@ -171,7 +168,7 @@ where
     } = rooms;
     let config = Arc::new(alloc, config)?;
     let held = Arc::try_clone(&config)?;
-    let state = ServerState::new(store, config, plan.boot, key);
+    let state = ServerState::new(store, config, key);
     let current = Current::of(&state, held);
     let server = Server {
         rt,

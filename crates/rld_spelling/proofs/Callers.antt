@@ -11,6 +11,6 @@ pub use Rattle.rld_spelling.proofs.Made.{behind_read, both_read, seen_as_read, o
 -- what was read as one of several cases is spelled so
 pub use Rattle.rld_spelling.proofs.Made.{tag_case, case_spelled}
 -- a value that takes all of the octets
-pub use Rattle.rld_spelling.proofs.Wholes.{all_again, all_found, all_is, all_only}
+pub use Rattle.rld_spelling.proofs.Wholes.{all_again, all_found, all_only, front_found, front_only}
 -- values that a loop reads one behind the other
 pub use Rattle.rld_spelling.proofs.Loops.{with_front, front_none, front_more, front_fault, front_all, front_steps}

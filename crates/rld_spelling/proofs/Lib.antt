@@ -1,5 +1,5 @@
 pub mod BookLaws
-pub mod EraLaws
+pub mod TableSpelledLaws
 pub mod HeaderLaws
 pub mod MoveLaws
 pub mod SeenLoops

@@ -1,4 +1,4 @@
--- The table of an era that begins with a configuration fits.
+-- The table of a configuration fits.
 use Rattle.std.proofs.Common.{◌≡◌, ℕ, ◌≤◌, true, leb, List, [], ◌∷◌, length, All, refl, arith}
 use Rattle.std.proofs.lemmas.Bool.{le-leb, and_from}
 use Rattle.std.proofs.lemmas.List.{length-map}
@@ -8,7 +8,7 @@ use Rattle.rsl_accounts.specs.declared.entry.Entry.{Entry}
 use Rattle.rsl_accounts.specs.declared.settings.Settings.{Settings}
 use Rattle.rsl_accounts.specs.Field.{is_between, is_visible}
 use Rattle.rsl_accounts.specs.Limits.{IsName, IsAccount}
-use Rattle.rld_spelling.specs.Eras.{user_name_field, AccountFits, ClientFits, EraFits}
+use Rattle.rld_spelling.specs.TableSpelled.{user_name_field, AccountFits, ClientFits, TableFits}
 use Rattle.rld_spelling.specs.Tables.{account_row, client_row, TablesFit}
 
 visible : (text : List ℕ) → All (λ octet. (33 ≤ octet) × (octet ≤ 126)) text → is_visible text ≡ true
@@ -34,16 +34,10 @@ unfolding ClientFits
 client_fits client four = four
 
 pub tables_fit : TablesFit
-unfolding EraFits
-tables_fit boot lt config is four =
+unfolding TableFits
+tables_fit config is four =
     let accounts = All-map AccountFits account_row config.accounts (All-weaker (IsAccount config.settings) (λ entry. AccountFits (account_row entry)) (row_fits config.settings) config.accounts is.each_account) in
     let clients = All-map ClientFits client_row config.clients (All-weaker (λ client. length client.address ≡ 4) (λ client. ClientFits (client_row client)) client_fits config.clients four) in (
-      lt,
-      (
-        (is.settings.a_shard, is.settings.shards),
-        (
-          ((omega (arith, is.an_account, length-map config.accounts account_row), omega (arith, is.accounts, length-map config.accounts account_row)), accounts),
-          ((omega (arith, is.a_client, length-map config.clients client_row), omega (arith, is.clients, length-map config.clients client_row)), clients),
-        ),
-      ),
+      ((omega (arith, is.an_account, length-map config.accounts account_row), omega (arith, is.accounts, length-map config.accounts account_row)), accounts),
+      ((omega (arith, is.a_client, length-map config.clients client_row), omega (arith, is.clients, length-map config.clients client_row)), clients),
     )

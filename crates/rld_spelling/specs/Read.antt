@@ -1,5 +1,6 @@
 -- The answer of a reader of the code: the result of reading.
 use Rattle.std.specs.Prelude.{◌≡◌, ℕ, List, Result, Ok, Err}
+use Rattle.std.specs.Borrow.{Bor}
 use Rattle.rld_spelling.specs.declared.fault.Fault.{Fault}
 use Rattle.rld_spelling.specs.declared.fault.ReadFault.{ReadFault}
 use Rattle.rld_spelling.specs.declared.fault.ReadFault.TheVariants.{NoMemory, Malformed}
@@ -14,6 +15,16 @@ Reads (Err fault) left reading = reading ≡ Err fault
 abbrev pub ReadsSeen : {X A : Type 0} → (view : X → A) → Result X Fault → (left : List ℕ) → Reading A → Type 0
 ReadsSeen view (Ok x) left reading = reading ≡ Ok (view x, left)
 ReadsSeen view (Err fault) left reading = reading ≡ Err fault
+
+-- the value, with the octets behind it, or the fault
+abbrev pub ReadsFront : {A : Type 0} → Result (A × Bor (List ℕ)) Fault → Reading A → Type 0
+ReadsFront (Ok front) reading = reading ≡ Ok (front.0, front.1.now)
+ReadsFront (Err fault) reading = reading ≡ Err fault
+
+-- this value was found, with these octets behind it
+abbrev pub IsFront : {A : Type 0} → Result (A × Bor (List ℕ)) Fault → (value : A) → (rest : List ℕ) → Type 0
+IsFront (Ok front) value rest = (front.0 ≡ value) × (front.1.now ≡ rest)
+IsFront (Err fault) value rest = ⊥
 
 -- the fault, unless memory was refused
 abbrev pub FaultIs : {A : Type 0} → ReadFault → Result A Fault → Type 0

@@ -4,7 +4,7 @@
 ghost use Rattle.std.specs.Prelude.{◌≡◌, ◌++◌, ◌≤◌, ◌<◌, ◌^◌, List, ℕ};
 ghost use Rattle.rsl_shard.specs.declared.moved.Move.{Move as OneMove};
 ghost use Rattle.rld_spelling.specs.Books.{book_field, books_field};
-ghost use Rattle.rld_spelling.specs.Eras.{era_field};
+ghost use Rattle.rld_spelling.specs.TableSpelled.{table_field};
 ghost use Rattle.rld_spelling.specs.Field.{IsRead, octet, fixed, short, flag, nothing};
 ghost use Rattle.rld_spelling.specs.Headers.{header_field};
 ghost use Rattle.rld_spelling.specs.Laws.{FewEnough};
@@ -33,9 +33,9 @@ pub fn books_are_read()
     ensures snapshots { (clients : ℕ) → clients < 2 ^ 32 → IsRead (books_field clients) }
 {}
 
-/// The table of an era is read as it is spelled.
-pub fn eras_are_read()
-    ensures { IsRead era_field }
+/// A table is read as it is spelled.
+pub fn tables_are_read()
+    ensures { IsRead table_field }
 {}
 
 /// The header of a generation is read as it is spelled.
@@ -43,7 +43,7 @@ pub fn headers_are_read()
     ensures { IsRead header_field }
 {}
 
-/// The table of an era that begins with a configuration fits, so it is never refused.
+/// The table of a configuration fits, so it is never refused.
 pub fn tables_of_configurations_fit()
     ensures { TablesFit }
 {}

@@ -42,6 +42,13 @@ impl<'a> Reader<'a> {
         Reader { rest: octets }
     }
 
+    /// The octets that are left.
+    pub fn rest(&self) -> &'a [u8]
+        ensures { result.now ≡ self.now }
+    {
+        self.rest
+    }
+
     /// The number of octets left.
     pub fn left(&self) -> usize
         ensures { result ≡ length self.now }

@@ -4,24 +4,26 @@ use Rattle.std.proofs.lemmas.Bool.{cases_order}
 use Rattle.std.proofs.lemmas.List.Elements.{Contains-append_left, Contains-push}
 use Rattle.rld_folder.specs.Newest.{IsBelow, IsNewest, IsNoNewer, Precedes}
 use Rattle.rld_folder.specs.declared.name.FileName.{FileName}
-use Rattle.rld_folder.specs.declared.name.FileName.TheVariants.{Lock, Era, Log}
+use Rattle.rld_folder.specs.declared.name.FileName.TheVariants.{Lock, FormerTable, Log}
 use Rattle.rld_folder.specs.declared.name.Generation.{Generation}
+use Rattle.rld_folder.specs.declared.name.Generation.TheVariants.{Former, Numbered}
 use Rattle.rld_start.specs.Founds.{HasFirst, IsLogPassed, IsNewerPassed, IsNewestOf, IsPassed}
 use Rattle.rld_start.specs.declared.newest.Begun.{Begun}
 use Rattle.rld_start.specs.declared.look.Unbegun.{Unbegun}
 
--- two generations with the same numbers are the same
-pub same_numbers : (one other : Generation) → one.era ≡ other.era → one.number ≡ other.number → one ≡ other
-same_numbers one other eras numbers =
-    subst (λ (era : ℕ). one ≡ record { era = era; number = other.number }) eras
-    (subst (λ (number : ℕ). one ≡ record { era = one.era; number = number }) numbers refl)
+-- two generations of eras with the same numbers are the same
+same_former : (era number other_era other_number : ℕ) → era ≡ other_era → number ≡ other_number
+    → Former era number ≡ Former other_era other_number
+same_former era number other_era other_number eras numbers =
+    subst (λ (e : ℕ). Former era number ≡ Former e other_number) eras
+    (subst (λ (n : ℕ). Former era number ≡ Former era n) numbers refl)
 
 -- of two generations one is before the other, or they are the same
 pub either_precedes : (one other : Generation) → (one ≡ other) ⊎ (Precedes one other ⊎ Precedes other one)
-either_precedes one other =
-    elim (cases_order one.era other.era) [
-      | inl same ↦ elim (cases_order one.number other.number) [
-        | inl numbers ↦ inl (same_numbers one other same numbers)
+either_precedes (Former era number) (Former other_era other_number) =
+    elim (cases_order era other_era) [
+      | inl same ↦ elim (cases_order number other_number) [
+        | inl numbers ↦ inl (same_former era number other_era other_number same numbers)
         | inr order ↦ elim order [
           | inl below ↦ inr (inl (inr (same, below)))
           | inr above ↦ inr (inr (inr (sym same, above)))
@@ -30,6 +32,16 @@ either_precedes one other =
       | inr order ↦ elim order [
         | inl below ↦ inr (inl (inl below))
         | inr above ↦ inr (inr (inl above))
+      ]
+    ]
+either_precedes (Former era number) (Numbered other) = inr (inl tt)
+either_precedes (Numbered number) (Former other_era other_number) = inr (inr tt)
+either_precedes (Numbered number) (Numbered other) =
+    elim (cases_order number other) [
+      | inl same ↦ inl (subst (λ (n : ℕ). Numbered number ≡ Numbered n) same refl)
+      | inr order ↦ elim order [
+        | inl below ↦ inr (inl below)
+        | inr above ↦ inr (inr above)
       ]
     ]
 
@@ -51,7 +63,7 @@ passed_with shown limit passed next generation no_newer before not_below =
 
 none_passed_at : (passed : List Unbegun) (file : FileName) → IsPassed None passed file
 none_passed_at passed Lock = tt
-none_passed_at passed (Era era) = tt
+none_passed_at passed (FormerTable era) = tt
 none_passed_at passed (Log generation) = λ not_below. absurd (not_below tt)
 
 -- before a look nothing was passed over
@@ -62,7 +74,7 @@ one_passed_at : (limit : Option Generation) (next : Generation) (passed : List U
     → IsNoNewer limit (Some next) file → IsPassed limit passed file
     → IsPassed (Some next) (passed ++ record { generation = next } ∷ []) file
 one_passed_at limit next passed Lock no_newer so_far = tt
-one_passed_at limit next passed (Era era) no_newer so_far = tt
+one_passed_at limit next passed (FormerTable era) no_newer so_far = tt
 one_passed_at limit next passed (Log generation) no_newer so_far =
     passed_with (λ (one : Generation). record { generation = one }) limit passed next generation no_newer so_far
 
@@ -80,7 +92,7 @@ one_passed limit files next passed shown newest so_far is =
 newer_passed_at : (limit : Option Generation) (counts : Generation) (passed : List Unbegun) (file : FileName)
     → IsNoNewer limit (Some counts) file → IsPassed limit passed file → IsNewerPassed counts passed file
 newer_passed_at limit counts passed Lock no_newer so_far = tt
-newer_passed_at limit counts passed (Era era) no_newer so_far = tt
+newer_passed_at limit counts passed (FormerTable era) no_newer so_far = tt
 newer_passed_at limit counts passed (Log generation) no_newer so_far = λ newer. so_far (λ below. no_newer below newer)
 
 -- the generation that counts, and what was passed over on the way to it
@@ -98,7 +110,7 @@ counts_among limit files counts passed found newest so_far is =
 all_passed_at : (limit : Option Generation) (passed : List Unbegun) (file : FileName)
     → IsNoNewer limit None file → IsPassed limit passed file → IsLogPassed passed file
 all_passed_at limit passed Lock no_newer so_far = tt
-all_passed_at limit passed (Era era) no_newer so_far = tt
+all_passed_at limit passed (FormerTable era) no_newer so_far = tt
 all_passed_at limit passed (Log generation) no_newer so_far = so_far no_newer
 
 -- where none is left, each was passed over

@@ -1,9 +1,8 @@
 -- When a start makes a new history.
-use Rattle.std.specs.Prelude.{⊤, Bool, true, false, Option, None, Some}
+use Rattle.std.specs.Prelude.{⊤, Bool, true, false, Option, None, Some, IsSome}
 use Rattle.rld_config.specs.declared.new_history.NewHistory.{NewHistory}
 use Rattle.rld_config.specs.declared.new_history.NewHistory.TheVariants.{Begins, Refused}
 use Rattle.rld_folder.specs.declared.name.Generation.{Generation}
-use Rattle.rld_start.specs.Founds.{IsFrom}
 use Rattle.rld_start.specs.declared.count.Found.{Found}
 
 -- A start goes on from the generation that counts. Where none counts it begins a new history,
@@ -13,7 +12,7 @@ may_start Begins begun = true
 may_start Refused None = false
 may_start Refused (Some generation) = true
 
--- what was found is of a generation, if a new history is refused
+-- a start goes on from a generation, if a new history is refused
 abbrev pub HasHistory : NewHistory → Found → Type 0
 HasHistory Begins found = ⊤
-HasHistory Refused found = (generation : Generation) × IsFrom (Some generation) found
+HasHistory Refused found = IsSome found.from

@@ -9,7 +9,6 @@ pub mod Going
 pub mod Greeting
 pub mod Lengths
 pub mod Looks
-pub mod NewNumbers
 pub mod NextHeaders
 pub mod Numbers
 pub mod Rebased

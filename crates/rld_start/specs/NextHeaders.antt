@@ -1,30 +1,37 @@
 -- The header that a log must have, and the next one.
-use Rattle.std.specs.Prelude.{ℕ, List, ◌+◌, ◌&&◌, nat_eq, bytes_eq, if◌then◌else◌, Option, None, Some}
-use Rattle.md5.specs.Md5.{md5}
-use Rattle.rld_folder.specs.declared.name.Generation.{Generation}
+use Rattle.std.specs.Prelude.{◌≡◌, ℕ, ◌+◌, List, nat_eq, if◌then◌else◌, Option, None, Some}
+use Rattle.rld_folder.specs.declared.name.FileName.{FileName}
 use Rattle.rld_spelling.specs.declared.header.Header.{Header}
-use Rattle.rld_spelling.specs.declared.header.Format.TheVariants.{Two}
+use Rattle.rld_start.specs.Numbers.{greatest_by, number_of}
 use Rattle.rld_start.specs.declared.wrong.Cause.{Cause}
-use Rattle.rld_start.specs.declared.wrong.Cause.TheVariants.{OtherGeneration, OtherTable}
+use Rattle.rld_start.specs.declared.wrong.Cause.TheVariants.{OtherGeneration}
 
--- the generation that a header names
-abbrev pub generation_named : Header → Generation
-generation_named header = record { era = header.era; number = header.generation }
+-- why a header is not that of the generation with a number, if it is not
+abbrev pub header_cause : Header → (number : ℕ) → Option Cause
+header_cause header number = if nat_eq header.generation number then None else Some OtherGeneration
 
--- why a header is not that of a generation and of a table, if it is not
-abbrev pub header_cause : Header → Generation → (table : List ℕ) → Option Cause
-header_cause header generation table =
-    if nat_eq header.era generation.era && nat_eq header.generation generation.number then
-    (if bytes_eq header.digest (md5 table) then None else Some OtherTable)
-    else Some OtherGeneration
+-- the header of a new history
+abbrev pub first_header : (generation boot : ℕ) → Header
+first_header generation boot = record { generation = generation; table = 1; boot = boot; lines = 0 }
 
--- the header of the generation with the number `generation`, after one with `moves` moves; each
--- generation that begins is of format 2
+-- the header of the generation with the number `generation`, after one with `moves` moves
 abbrev pub header_after : Header → (generation moves : ℕ) → Header
 header_after header generation moves = record {
-  format = Two;
-  era = header.era;
   generation = generation;
-  digest = header.digest;
+  table = header.table;
+  boot = header.boot;
   lines = header.lines + moves;
 }
+
+-- the same, where it has another table
+abbrev pub header_changed : Header → (generation moves : ℕ) → Header
+header_changed header generation moves = record {
+  generation = generation;
+  table = header.table + 1;
+  boot = header.boot;
+  lines = header.lines + moves;
+}
+
+-- its generation has the number after the greatest of the folder's logs
+abbrev pub IsNewNumber : List FileName → Header → Type 0
+IsNewNumber files header = header.generation ≡ greatest_by number_of files + 1

@@ -11,6 +11,7 @@ wrong_of (faults.Damaged damage) = Some (record { offset = damage.offset; cause 
 wrong_of faults.Unbegun = Some (record { offset = 20; cause = causes.Alone })
 wrong_of (faults.Malformed malformed) =
     Some (record { offset = malformed.offset; cause = causes.Malformed malformed.cause })
+wrong_of (faults.OtherTable offset) = Some (record { offset = offset; cause = causes.OtherTable })
 wrong_of (faults.Misfit offset fault) = Some (record { offset = offset; cause = causes.Misfit fault })
 wrong_of (faults.Foreign offset) = Some (record { offset = offset; cause = causes.Foreign })
 wrong_of _ = None

@@ -1,16 +1,16 @@
-//! Beginning an era with the books of another one, cut to a moment.
+//! Beginning a generation with the books of the one before, cut to a moment.
 
 ghost use Rattle.std.specs.Prelude.{◌≡◌, ◌+◌, ◌<◌, ◌^◌, IfOk, string_bytes};
-ghost use Rattle.md5.specs.Md5.{md5};
 ghost use Rattle.rld_books.specs.Cut.{cut_server, late_in_server};
 ghost use Rattle.rld_books.specs.Saved.{IsServerOf};
-ghost use Rattle.rld_start.specs.NextHeaders.{generation_named};
-ghost use Rattle.rld_start.specs.Numbers.{era_of, greatest_by};
+ghost use Rattle.rld_start.specs.NextHeaders.{header_after};
+ghost use Rattle.rld_start.specs.Numbers.{greatest_by, number_of};
 
-use crate::changing::sync_begun;
 use crate::fault::StartFault;
-use crate::new_era::{NewEra, begin_era};
-use crate::reopening::{EraTable, Former};
+use crate::header::next_header;
+use crate::new_generation::{NewGeneration, begin_generation, sync_begun};
+use crate::number::new_number;
+use crate::reopening::Former;
 use crate::words::{write_number, write_text};
 use crate::wrong::{Cause, Wrong};
 use rld_books::{CutBooks, ServerBooks, ServerFault};
@@ -20,29 +20,29 @@ use rsl_accounts::Config;
 use std::alloc::{AllocError, Global};
 use std::fs::{File, Files};
 
-/// The result of a rebase. Only an era that was begun with cut books gives one.
+/// The result of a rebase. Only a generation that was begun with cut books gives one.
 #[derive(Clone, Copy)]
 pub struct Rebased {
-    from: Generation,
-    era: u64,
+    from: u64,
+    generation: u64,
     moments: u64,
 }
 
 impl Rebased {
     ghost use Rattle.rld_start.specs.Rebased.{rebased};
 
-    /// The generation whose books were cut.
-    pub fn from(&self) -> Generation
+    /// The number of the generation whose books were cut.
+    pub fn from(&self) -> u64
         ensures { result ≡ self.now.from }
     {
         self.from
     }
 
-    /// The number of the era that begins with them.
-    pub fn era(&self) -> u64
-        ensures { result ≡ self.now.era }
+    /// The number of the generation that begins with them.
+    pub fn generation(&self) -> u64
+        ensures { result ≡ self.now.generation }
     {
-        self.era
+        self.generation
     }
 
     /// The number of moments that were later than the present and were cut, at most 2^64 - 1.
@@ -53,52 +53,50 @@ impl Rebased {
     }
 
     /// The message of a rebase, in one line with its line feed: the generation whose books were
-    /// cut, how many moments were, and the era that begins with them. It fails only if memory is
+    /// cut, how many moments were, and the generation that begins with them. It fails only if memory is
     /// refused.
     pub fn line(&self, alloc: Global) -> Result<String, AllocError>
         ensures { IfOk result (λ text. string_bytes text ≡ rebased self.now) }
     {
         let mut text = String::new(alloc);
-        write_number(&mut text, "era ", self.from.era)?;
-        write_number(&mut text, ", generation ", self.from.number)?;
+        write_number(&mut text, "generation ", self.from)?;
         write_number(&mut text, ": ", self.moments)?;
-        write_text(&mut text, " moments cut; ")?;
-        write_number(&mut text, "era ", self.era)?;
+        write_number(&mut text, " moments cut; generation ", self.generation)?;
         write_text(&mut text, " begins\n")?;
         Ok(text)
     }
 }
 
-/// An era that was begun with cut books. Only `cut_from` makes one.
+/// A generation that was begun with cut books. Only `cut_from` makes one.
 #[derive(Drop)]
-pub(crate) struct CutEra<'a> {
-    /// The generation whose books were cut.
-    from: Generation,
-    /// The era.
-    begun: NewEra<'a>,
+pub(crate) struct Cut<'a> {
+    /// The number of the generation whose books were cut.
+    from: u64,
+    /// The generation.
+    begun: NewGeneration<'a>,
     /// The number of moments that were cut, at most 2^64 - 1.
     moments: u64,
     /// That its log is on the disk.
     synced: Synced,
 }
 
-impl CutEra<'_> {
+impl Cut<'_> {
     /// What is said of it, once its log is on the disk.
     pub(crate) fn rebased(&self) -> Rebased
-        requires { self.now.synced.generation ≡ generation_named self.now.begun.header }
+        requires { self.now.synced.generation ≡ self.now.begun.store.header.generation }
         ensures from { result.from ≡ self.now.from }
-        ensures era { result.era ≡ self.now.begun.header.era }
+        ensures generation { result.generation ≡ self.now.begun.store.header.generation }
         ensures moments { result.moments ≡ self.now.moments }
     {
         Rebased {
             from: self.from,
-            era: self.begun.header.era,
+            generation: self.begun.store.header().generation,
             moments: self.moments,
         }
     }
 }
 
-/// Begins an era with the table of an opened generation, and with the books of its log, cut to a
+/// Begins a generation after an opened one, with its table and with the books of its log, cut to a
 /// moment.
 pub(crate) fn cut_from<'a, R: Files<File = File>>(
     files: &R,
@@ -106,31 +104,34 @@ pub(crate) fn cut_from<'a, R: Files<File = File>>(
     config: &Config,
     folder: &Folder,
     names: &[FileName],
-    table: &EraTable,
     former: &Former<'_>,
     now: u64,
     pacing: Pacing<'a>,
-) -> Result<CutEra<'a>, StartFault>
+) -> Result<Cut<'a>, StartFault>
     requires { pacing.pace ≡ Pace.Always }
-    ensures synced { IfOk result (λ cut. cut.synced.generation ≡ generation_named cut.begun.header) }
-    ensures from { IfOk result (λ cut. cut.from ≡ former.now.generation) }
+    ensures synced { IfOk result (λ cut.
+        cut.synced.generation ≡ cut.begun.store.header.generation) }
+    ensures from { IfOk result (λ cut. cut.from ≡ former.now.number) }
     ensures server { IfOk result (λ cut. IsServerOf config.now cut.begun.store.books) }
     ensures books { IfOk result (λ cut. IsServerOf config.now former.now.opened.store.books →
         cut.begun.store.books ≡ cut_server now former.now.opened.store.books) }
     ensures moments { IfOk result (λ cut. late_in_server now former.now.opened.store.books < 2 ^ 64 →
         cut.moments ≡ late_in_server now former.now.opened.store.books) }
-    ensures table { IfOk result (λ cut. cut.begun.header.digest ≡ md5 table.now.octets.items) }
-    ensures era { IfOk result (λ cut. cut.begun.header.era ≡ greatest_by era_of names.now + 1) }
-    ensures written { IfOk result (λ cut. cut.begun.store.header ≡ cut.begun.header) }
-    ensures key { IfOk result (λ cut. cut.begun.key.generation ≡ generation_named cut.begun.header) }
+    ensures header { IfOk result (λ cut. cut.begun.store.header ≡ header_after
+        former.now.opened.header (greatest_by number_of names.now + 1) former.now.opened.moves) }
+    ensures key { IfOk result (λ cut. cut.begun.key.generation ≡ cut.begun.store.header.generation) }
 {
+    let next = new_number(names)?;
+    let Some(header) = next_header(&former.opened.header, next, former.opened.moves as u64) else {
+        return Err(StartFault::NoNumber);
+    };
     let books = former.opened.store.books();
-    let CutBooks { books, moments } = cut_books(alloc, config, former.generation, books, now)?;
-    let table = table.octets.as_slice();
-    let begun = begin_era(files, alloc, config, folder, names, table, books, pacing)?;
-    let synced = sync_begun(files, alloc, folder, &begun.header)?;
-    Ok(CutEra {
-        from: former.generation,
+    let generation = Generation::Numbered(former.number);
+    let CutBooks { books, moments } = cut_books(alloc, config, generation, books, now)?;
+    let begun = begin_generation(files, alloc, config, folder, header, books, pacing)?;
+    let synced = sync_begun(files, alloc, folder, &header)?;
+    Ok(Cut {
+        from: former.number,
         begun,
         moments,
         synced,

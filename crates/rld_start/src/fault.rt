@@ -4,7 +4,7 @@ ghost use Rattle.rld_start.specs.Status.{status_of_folder, status_of_log};
 ghost use Rattle.rld_start.specs.declared.fault.StartFault.TheVariants.{BadLog as bad_log, NoMemory as no_memory};
 
 use crate::status::EndStatus;
-use crate::wrong::{BadLog, Cause, Wrong, write_name};
+use crate::wrong::{BadLog, Wrong};
 use rld_folder::{FileName, FolderFault};
 use rld_log::LogFault;
 use rld_store::StoreFault;
@@ -26,9 +26,8 @@ pub enum StartFault {
     Log(FileName, LogFault),
     /// A file is damaged.
     BadLog(BadLog),
-    /// The accounts, their rules, the clients' addresses or the shards are not those of the era
-    /// with this number.
-    OtherAccounts(u64),
+    /// The accounts, their rules or the clients' addresses are not those of the folder's history.
+    OtherAccounts,
     /// The contents of a new log have no spelling, or are too long for a file.
     Unwritable(FileName),
     /// No number is left for a new file.
@@ -58,7 +57,7 @@ impl StartFault {
             StartFault::Folder(fault) | StartFault::File(_, fault) => status_of_folder(*fault),
             StartFault::Log(_, fault) => status_of_log(*fault),
             StartFault::BadLog(_)
-            | StartFault::OtherAccounts(_)
+            | StartFault::OtherAccounts
             | StartFault::NoNumber
             | StartFault::NoHistory
             | StartFault::NoNewHistory => EndStatus::WrongInput,
@@ -107,20 +106,13 @@ impl fmt::Display for StartFault {
             StartFault::NoMemory => f.write_str("no memory"),
             StartFault::Folder(FolderFault::Busy) => f.write_str("busy"),
             StartFault::Folder(fault) => write!(f, "bad folder: {fault}"),
-            StartFault::File(file, fault) => {
-                write_name(*file, f)?;
-                write!(f, ": {fault}")
-            }
-            StartFault::Log(file, fault) => {
-                write_name(*file, f)?;
-                write!(f, ": {fault}")
-            }
+            StartFault::File(file, fault) => write!(f, "{file}: {fault}"),
+            StartFault::Log(file, fault) => write!(f, "{file}: {fault}"),
             StartFault::BadLog(bad) => write!(f, "{bad}"),
-            StartFault::OtherAccounts(era) => write!(f, "other accounts than those of era-{era}"),
-            StartFault::Unwritable(file) => {
-                write_name(*file, f)?;
-                f.write_str(": too long")
+            StartFault::OtherAccounts => {
+                f.write_str("other accounts than those of the state folder")
             }
+            StartFault::Unwritable(file) => write!(f, "{file}: too long"),
             StartFault::NoNumber => f.write_str("no number is left for a new file"),
             StartFault::NoHistory => f.write_str("no history"),
             StartFault::NoNewHistory => f.write_str(

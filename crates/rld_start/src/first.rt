@@ -1,23 +1,14 @@
-//! The front of a log: whether its generation was begun, and its header.
+//! The front of a log: whether its generation was begun.
 
-ghost use Rattle.std.specs.Prelude.{◌↔◌, ℕ, List, drop, map, IfErr, IfOk, IsErr, OnOk};
+ghost use Rattle.std.specs.Prelude.{◌≡◌, ◌↔◌, ℕ, List, drop, map, IfErr, IfOk, IsErr, OnOk};
 ghost use Rattle.rld_log.specs.Frames.{HasPayloads};
-ghost use Rattle.rld_start.specs.Firsts.{IsFirst, IsSpoilt, IsUnspoilt, IsWhyNoFirst};
+ghost use Rattle.rld_start.specs.Firsts.{IsBegunOrNot, IsSpoilt, IsUnspoilt};
 ghost use Rattle.rld_start.specs.Lengths.{HasSpoiltLength};
+ghost use Rattle.rld_store.specs.declared.fault.StoreFault.TheVariants.{TooLong as too_long};
 
 use crate::length::has_spoilt_length;
 use rld_log::{Damage, Frames};
-use rld_spelling::Header;
 use rld_store::{Parts, StoreFault};
-
-/// The front of a log.
-#[derive(Clone, Copy)]
-pub enum First {
-    /// It has no whole snapshot: the generation was not begun.
-    Unbegun,
-    /// It has a whole snapshot, after this header.
-    Begun(Header),
-}
 
 /// Checks that what follows the whole frames of a log is a torn end. `Damage` comes exactly if there
 /// is a frame with a spoilt length and its whole payload.
@@ -34,18 +25,16 @@ pub fn check_torn(frames: &Frames) -> Result<(), Damage>
     Ok(())
 }
 
-impl First {
-    /// The front of a log with these payloads. `Malformed` comes only if its generation was begun and
-    /// the header cannot be read; of the other faults only `TooLong` can.
-    pub fn of(payloads: &[&[u8]]) -> Result<First, StoreFault>
-        ensures first { IfOk result (λ first. (octets : List ℕ) →
-            HasPayloads octets (map (λ payload. payload.now) payloads.now) → IsFirst octets first) }
-        ensures why { IfErr result (IsWhyNoFirst (map (λ payload. payload.now) payloads.now)) }
-    {
-        match Parts::of(payloads) {
-            Ok(parts) => Ok(First::Begun(parts.header.header()?)),
-            Err(StoreFault::Unbegun) => Ok(First::Unbegun),
-            Err(fault) => Err(fault),
-        }
+/// Whether the generation of a log with these payloads was begun: whether there are two of them, for
+/// its header and its snapshot. Of all faults only `TooLong` can come.
+pub(crate) fn is_begun(payloads: &[&[u8]]) -> Result<bool, StoreFault>
+    ensures begun { IfOk result (λ begun. (octets : List ℕ) →
+        HasPayloads octets (map (λ payload. payload.now) payloads.now) → IsBegunOrNot begun octets) }
+    ensures why { IfErr result (λ fault. fault ≡ too_long) }
+{
+    match Parts::of(payloads) {
+        Ok(_parts) => Ok(true),
+        Err(StoreFault::Unbegun) => Ok(false),
+        Err(fault) => Err(fault),
     }
 }

@@ -15,7 +15,7 @@ fn is_earlier(begun: Option<Generation>, file: FileName) -> bool
     match (file, begun) {
         (FileName::Log(generation), Some(begun)) => generation.precedes(begun),
         (FileName::Log(_), None) => false,
-        (FileName::Lock, _) | (FileName::Era(_), _) => true,
+        (FileName::Lock, _) | (FileName::FormerTable(_), _) => true,
     }
 }
 

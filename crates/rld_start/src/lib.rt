@@ -1,13 +1,14 @@
 //! The start of a server from its folder.
 //!
-//! The promise: a start goes on from the newest generation that was begun, under numbers that no
-//! file has, or it says what prevents that. If the account file is another one, a new era begins
-//! with the books admitted from the old one. If a clock that was ahead has led the books past the
-//! present, `rebase` begins a new era with the books cut to it. `specs/Numbers.antt` says which
-//! numbers follow, `specs/Firsts.antt` when a generation was begun, `specs/Founds.antt` which one
-//! counts, `specs/Beginnings.antt` when a new history begins, and `specs/Status.antt` the exit
-//! status of a server that does not start. No clause speaks of what the system's files give;
-//! `newest.rt` and `starting.rt` are written to be read.
+//! The promise: a start goes on from the newest generation that was begun, under a number that no
+//! log has, or it says what prevents that. If the account file is another one, or the log of a
+//! former format, the next generation has the books admitted from the old one. If a clock that was
+//! ahead has led the books past the present, `rebase` begins one with the books cut to it.
+//! `specs/Numbers.antt` says which number follows, `specs/Firsts.antt` when a generation was begun,
+//! `specs/Founds.antt` which one counts, `specs/Going.antt` what goes on, `specs/Beginnings.antt`
+//! when a new history begins, and `specs/Status.antt` the exit status of a server that does not
+//! start. No clause speaks of what the system's files give; `newest.rt` and `starting.rt` are
+//! written to be read.
 #![tactic(auto)]
 
 mod beginning;
@@ -22,9 +23,8 @@ mod gap;
 mod generations;
 mod header;
 mod length;
-mod listed;
 mod look;
-mod new_era;
+mod new_generation;
 mod newest;
 mod number;
 mod rebasing;
@@ -33,21 +33,20 @@ mod reopening;
 mod room;
 mod starting;
 mod status;
-mod table;
+mod upgrading;
 mod words;
 mod written;
 mod wrong;
 
 pub use beginning::open_folder;
-pub use changing::{admitted_books, has_same_clients, is_same_era};
-pub use count::{Admitted, Found, sessions_in};
+pub use changing::{admitted_books, has_same_clients, has_same_table};
+pub use count::{Found, sessions_in};
 pub use cutting::Rebased;
 pub use fault::StartFault;
-pub use first::{First, check_torn};
+pub use first::check_torn;
 pub use generations::{FolderGenerations, Generations, NextLog};
-pub use header::{check_header, generation_named, next_header};
-pub use new_era::NextEra;
-pub use number::{next_era, next_generation};
+pub use header::{changed_header, check_header, next_header};
+pub use number::next_generation;
 pub use rebasing::rebase;
 pub use room::make_room;
 pub use starting::{Started, start};

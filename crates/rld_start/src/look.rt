@@ -3,10 +3,9 @@
 ghost use Rattle.std.specs.Prelude.{◌≡◌, IfOk, IsTrue};
 ghost use Rattle.rld_start.specs.Looks.{IsSeenIn, IsSeenOf};
 
-use crate::first::{First, check_torn};
+use crate::first::{check_torn, is_begun};
 use rld_folder::Generation;
 use rld_log::{Frames, Log};
-use rld_spelling::Header;
 use rld_store::{StoreFault, read_frames};
 use std::alloc::Global;
 
@@ -20,8 +19,8 @@ pub(crate) struct Unbegun {
 /// What a log is seen to be.
 #[derive(Drop)]
 pub(crate) enum Seen {
-    /// That of a generation that was begun with this header, with these frames.
-    Begun(Header, Frames),
+    /// That of a generation that was begun, with these frames.
+    Begun(Frames),
     /// That of one that was not begun.
     Unbegun(Unbegun),
 }
@@ -38,9 +37,9 @@ pub(crate) fn look_in<L: Log>(
 {
     let frames = read_frames(alloc, log)?;
     check_torn(&frames)?;
-    let first = First::of(&frames.payloads(alloc)?)?;
-    match first {
-        First::Begun(header) => Ok(Seen::Begun(header, frames)),
-        First::Unbegun => Ok(Seen::Unbegun(Unbegun { generation })),
+    let begun = is_begun(&frames.payloads(alloc)?)?;
+    match begun {
+        true => Ok(Seen::Begun(frames)),
+        false => Ok(Seen::Unbegun(Unbegun { generation })),
     }
 }

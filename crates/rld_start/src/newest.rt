@@ -1,19 +1,18 @@
 //! The generation that counts: the newest one that was begun.
 
-ghost use Rattle.std.specs.Prelude.{◌≡◌, ◌↔◌, All, IfOk, IsTrue, None, OnOk};
+ghost use Rattle.std.specs.Prelude.{◌≡◌, IfOk, IsTrue, None, OnOk};
 ghost use Rattle.rld_folder.specs.Newest.{IsNewest};
 ghost use Rattle.rld_start.specs.Founds.{IsLookAt, IsNewestBegun, generation_in};
-ghost use Rattle.rld_start.specs.Numbers.{IsFirstOrNone};
+ghost use Rattle.rld_start.specs.Numbers.{may_begin};
 
 use crate::fault::StartFault;
 use crate::files::open_log;
 use crate::look::{Seen, Unbegun, look_in};
-use crate::new_era::FIRST;
+use crate::number::may_begin;
 use crate::refused::log_refused;
 use crate::wrong::{Cause, Wrong};
 use rld_folder::{FileName, Folder, Generation, newest_generation};
 use rld_log::{FileLog, Frames};
-use rld_spelling::Header;
 use std::alloc::Global;
 use std::fs::{File, Files};
 
@@ -21,7 +20,6 @@ use std::fs::{File, Files};
 #[derive(Drop)]
 pub(crate) struct Begun {
     generation: Generation,
-    header: Header,
     log: FileLog,
     frames: Frames,
 }
@@ -34,11 +32,11 @@ impl Begun {
         self.generation
     }
 
-    /// Its header.
-    pub(crate) fn header(&self) -> Header
-        ensures { result ≡ self.now.header }
+    /// The frames read from its log.
+    pub(crate) fn frames(&self) -> &Frames
+        ensures { result.now ≡ self.now.frames }
     {
-        self.header
+        &self.frames
     }
 
     /// Its log, and the frames read from it.
@@ -86,7 +84,7 @@ impl Newest {
 }
 
 /// The newest generation that was begun, if there is one. If there is none, `Alone` of the newest
-/// log comes unless each log is that of the first generation of its era.
+/// log comes unless a new history may begin beside the files (`may_begin`).
 #[tactic(auto, using(crate::proofs::Passed::none_passed))]
 pub(crate) fn newest_begun<R: Files<File = File>>(
     files: &R,
@@ -133,9 +131,8 @@ fn look_at<R: Files<File = File>>(
 {
     let mut log = open_log(files, alloc, folder, generation)?;
     match look_in(alloc, generation, &mut log) {
-        Ok(Seen::Begun(header, frames)) => Ok(Look::Begun(Begun {
+        Ok(Seen::Begun(frames)) => Ok(Look::Begun(Begun {
             generation,
-            header,
             log,
             frames,
         })),
@@ -144,45 +141,25 @@ fn look_at<R: Files<File = File>>(
     }
 }
 
-/// Whether a file is no log, or that of the first generation of an era.
-fn is_first(name: FileName) -> bool
-    ensures { IsTrue result ↔ IsFirstOrNone name }
-{
-    match name {
-        FileName::Log(generation) => generation.number <= FIRST,
-        FileName::Lock | FileName::Era(_) => true,
-    }
-}
-
-/// Whether each log is that of the first generation of its era.
-fn are_first(names: &[FileName]) -> bool
-    ensures { IsTrue result ↔ All IsFirstOrNone names.now }
-{
-    for name in names {
-        if !is_first(*name) {
-            return false;
-        }
-    }
-    true
-}
-
 /// Checks that it is possible that no generation was begun: no log is left below the one that was
-/// looked at last, and each is that of the first generation of its era. Else `Alone` of the newest
-/// of these comes.
+/// looked at last, and a new history may begin beside the files. Else `Alone` of the newest log comes.
 fn check_first(names: &[FileName], later: Option<Generation>) -> Result<(), StartFault>
     ensures none_left { OnOk result (IsNewest later names.now None) }
-    ensures first { OnOk result (All IsFirstOrNone names.now) }
+    ensures first { OnOk result (IsTrue (may_begin names.now)) }
 {
-    match newest_generation(names, later) {
-        Some(left) => Err(alone(left)),
-        None => match newest_generation(names, None) {
-            Some(newest) if !are_first(names) => Err(alone(newest)),
-            _ => Ok(()),
-        },
+    if let Some(left) = newest_generation(names, later) {
+        return Err(alone(left));
+    }
+    if may_begin(names) {
+        return Ok(());
+    }
+    match newest_generation(names, None) {
+        Some(newest) => Err(alone(newest)),
+        None => Err(StartFault::NoHistory),
     }
 }
 
-/// The fault of a log that is not the first of its era, while none before it was begun.
+/// The fault of a log that was not begun, while none before it was.
 fn alone(generation: Generation) -> StartFault {
     let wrong = Wrong {
         offset: 0,

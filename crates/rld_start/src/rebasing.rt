@@ -1,33 +1,34 @@
-//! An era after one whose clock was ahead, with its books cut to the present.
+//! A generation after one whose clock was ahead, with its books cut to the present.
 
 ghost use Rattle.std.specs.Prelude.{◌≡◌, ◌+◌, All, IfOk, IfSome, OnOk, Some};
+ghost use Rattle.rld_folder.specs.declared.name.Generation.TheVariants.{Numbered};
 ghost use Rattle.rld_start.specs.Founds.{IsNewestBegun, generation_in};
 ghost use Rattle.rld_start.specs.Gaps.{IsEarlier};
 ghost use Rattle.rld_start.specs.Going.{HasCut};
-ghost use Rattle.rld_start.specs.NextHeaders.{generation_named};
-ghost use Rattle.rld_start.specs.Numbers.{era_of, greatest_by};
+ghost use Rattle.rld_start.specs.NextHeaders.{IsNewNumber};
 
-use crate::cutting::{CutEra, Rebased, cut_from};
+use crate::cutting::{Cut, Rebased, cut_from};
 use crate::fault::StartFault;
 use crate::gap::check_archive;
 use crate::newest::{Begun, Newest, newest_begun};
-use crate::reopening::{check_accounts, read_table, reopen};
-use rld_folder::{FileName, Folder};
-use rld_log::{Pace, Pacing, Ticks};
+use crate::reopening::{other_config, reopen};
+use crate::wrong::{Cause, Wrong};
+use rld_folder::{FileName, Folder, Generation};
+use rld_log::{HEAD_LEN, Pace, Pacing, Ticks};
 use rsl_accounts::Config;
 use std::alloc::Global;
 use std::fs::{File, Files};
 
-/// Begins a new era in the folder of a server that is not running: with the table and the boot
-/// number of the newest generation that was begun, and with its books cut to `now`, in seconds
-/// since 1970 (`ServerBooks::cut`). Its log is on the disk when this returns. The next start goes on from
-/// there.
+/// Begins a generation in the folder of a server that is not running: after the newest one that was
+/// begun, with its table, and with its books cut to `now`, in seconds since 1970
+/// (`ServerBooks::cut`). Its log is on the disk when this returns. The next start goes on from there.
 ///
-/// The faults are those of `start`, in their order, and `OtherAccounts` before the log is opened if
-/// the era has another table than the configuration; `NoHistory` comes if no generation was begun.
+/// A log of a version before format 3 is `Former`: a start goes on from it first. The other
+/// faults are those of `start`, in their order, and `OtherAccounts` before the log is opened if
+/// the generation has another table than the configuration; `NoHistory` comes if none was begun.
 /// Until a fault of a new file nothing has changed in the folder but an empty `lock` and a torn
-/// end, which is cut off. Such a fault leaves the old era, or the new one whole if only its last
-/// sync failed: a later start goes on in that.
+/// end, which is cut off. Such a fault leaves the former generation, or the new one whole if only its
+/// last sync failed: a later start goes on in that.
 pub fn rebase<R: Files<File = File> + Alloc<A = Global> + Clone + Drop>(
     rt: &R,
     alloc: Global,
@@ -59,8 +60,8 @@ pub fn rebase<R: Files<File = File> + Alloc<A = Global> + Clone + Drop>(
     Ok(cut.rebased())
 }
 
-/// Begins an era after the generation that counts in a folder with these files. `Gap` comes if a log
-/// of the archive is not before that generation, and then `NoHistory` if there is none.
+/// Begins a generation after the one that counts in a folder with these files. `Gap` comes if a log
+/// of the archive is not before that one, and then `NoHistory` if there is none.
 fn rebase_newest<'a, R: Files<File = File>>(
     files: &R,
     alloc: Global,
@@ -71,21 +72,17 @@ fn rebase_newest<'a, R: Files<File = File>>(
     newest: Newest,
     now: u64,
     pacing: Pacing<'a>,
-) -> Result<CutEra<'a>, StartFault>
+) -> Result<Cut<'a>, StartFault>
     requires newest { IsNewestBegun names.now newest }
     requires always { pacing.pace ≡ Pace.Always }
-    ensures synced { IfOk result (λ cut. cut.synced.generation ≡ generation_named cut.begun.header) }
+    ensures synced { IfOk result (λ cut.
+        cut.synced.generation ≡ cut.begun.store.header.generation) }
     ensures earlier { OnOk result (All (IsEarlier (generation_in newest.begun)) archived.now) }
-    ensures from { IfOk result (λ cut. Some cut.from ≡ generation_in newest.begun) }
-    ensures named { OnOk result (IfSome newest.begun (λ begun.
-        generation_named begun.header ≡ begun.generation)) }
-    ensures era { IfOk result (λ cut. cut.begun.header.era ≡ greatest_by era_of names.now + 1) }
-    ensures written { IfOk result (λ cut. cut.begun.store.header ≡ cut.begun.header) }
-    ensures key { IfOk result (λ cut. cut.begun.key.generation ≡ generation_named cut.begun.header) }
-    ensures table { IfOk result (λ cut. IfSome newest.begun (λ begun.
-        cut.begun.header.digest ≡ begun.header.digest)) }
+    ensures from { IfOk result (λ cut. Some (Numbered cut.from) ≡ generation_in newest.begun) }
+    ensures number { IfOk result (λ cut. IsNewNumber names.now cut.begun.store.header) }
+    ensures key { IfOk result (λ cut. cut.begun.key.generation ≡ cut.begun.store.header.generation) }
     ensures cut { IfOk result (λ cut. IfSome newest.begun (λ begun.
-        HasCut config.now begun now cut.begun.store.books cut.moments)) }
+        HasCut config.now begun now cut.begun.store.header cut.begun.store.books cut.moments)) }
 {
     check_archive(archived, newest.generation())?;
     match newest.into_begun() {
@@ -94,7 +91,16 @@ fn rebase_newest<'a, R: Files<File = File>>(
     }
 }
 
-/// Begins an era after a generation.
+/// The fault of the log of a generation that is of a version before format 3.
+fn former_refused(generation: Generation) -> StartFault {
+    let wrong = Wrong {
+        offset: HEAD_LEN,
+        cause: Cause::Former,
+    };
+    StartFault::bad(FileName::Log(generation), wrong)
+}
+
+/// Begins a generation after this one.
 fn rebase_begun<'a, R: Files<File = File>>(
     files: &R,
     alloc: Global,
@@ -104,22 +110,50 @@ fn rebase_begun<'a, R: Files<File = File>>(
     begun: Begun,
     now: u64,
     pacing: Pacing<'a>,
-) -> Result<CutEra<'a>, StartFault>
+) -> Result<Cut<'a>, StartFault>
     requires { pacing.pace ≡ Pace.Always }
-    ensures synced { IfOk result (λ cut. cut.synced.generation ≡ generation_named cut.begun.header) }
-    ensures from { IfOk result (λ cut. cut.from ≡ begun.generation) }
-    ensures named { OnOk result (generation_named begun.header ≡ begun.generation) }
-    ensures era { IfOk result (λ cut. cut.begun.header.era ≡ greatest_by era_of names.now + 1) }
-    ensures written { IfOk result (λ cut. cut.begun.store.header ≡ cut.begun.header) }
-    ensures key { IfOk result (λ cut. cut.begun.key.generation ≡ generation_named cut.begun.header) }
-    ensures table { IfOk result (λ cut. cut.begun.header.digest ≡ begun.header.digest) }
+    ensures synced { IfOk result (λ cut.
+        cut.synced.generation ≡ cut.begun.store.header.generation) }
+    ensures from { IfOk result (λ cut. Numbered cut.from ≡ begun.generation) }
+    ensures number { IfOk result (λ cut. IsNewNumber names.now cut.begun.store.header) }
+    ensures key { IfOk result (λ cut. cut.begun.key.generation ≡ cut.begun.store.header.generation) }
     ensures cut { IfOk result (λ cut.
-        HasCut config.now begun now cut.begun.store.books cut.moments) }
+        HasCut config.now begun now cut.begun.store.header cut.begun.store.books cut.moments) }
 {
-    let table = read_table(files, alloc, folder, &begun)?;
-    check_accounts(alloc, config, begun.generation().era, &table)?;
-    let former = reopen(alloc, config, &table, begun, pacing)?;
-    cut_from(
-        files, alloc, config, folder, names, &table, &former, now, pacing,
-    )
+    match begun.generation() {
+        Generation::Former { era, number } => {
+            Err(former_refused(Generation::Former { era, number }))
+        }
+        Generation::Numbered(number) => rebase_numbered(
+            files, alloc, config, folder, names, begun, number, now, pacing,
+        ),
+    }
+}
+
+/// Begins a generation after that of this number.
+fn rebase_numbered<'a, R: Files<File = File>>(
+    files: &R,
+    alloc: Global,
+    config: &Config,
+    folder: &Folder,
+    names: &[FileName],
+    begun: Begun,
+    number: u64,
+    now: u64,
+    pacing: Pacing<'a>,
+) -> Result<Cut<'a>, StartFault>
+    requires { pacing.pace ≡ Pace.Always }
+    ensures synced { IfOk result (λ cut.
+        cut.synced.generation ≡ cut.begun.store.header.generation) }
+    ensures from { IfOk result (λ cut. cut.from ≡ number) }
+    ensures number { IfOk result (λ cut. IsNewNumber names.now cut.begun.store.header) }
+    ensures key { IfOk result (λ cut. cut.begun.key.generation ≡ cut.begun.store.header.generation) }
+    ensures cut { IfOk result (λ cut.
+        HasCut config.now begun now cut.begun.store.header cut.begun.store.books cut.moments) }
+{
+    if other_config(alloc, config, &begun, number)?.is_some() {
+        return Err(StartFault::OtherAccounts);
+    }
+    let former = reopen(alloc, config, begun, number, pacing)?;
+    cut_from(files, alloc, config, folder, names, &former, now, pacing)
 }

@@ -1,43 +1,51 @@
 //! The message of a start.
 
 ghost use Rattle.std.specs.Prelude.{◌≡◌, ◌++◌, IfOk, OnOk, string_bytes};
-ghost use Rattle.rld_start.specs.Greeting.{admitted_text, behind_text, generation_text, numbered, torn_text};
+ghost use Rattle.rld_start.specs.Greeting.{behind_text, changed_text, from_text, generation_text, numbered, torn_text};
 
-use crate::count::{Admitted, Found};
+use crate::count::Found;
+use rld_folder::Generation;
 use std::alloc::{AllocError, Global};
 
 impl Found {
     ghost use Rattle.rld_start.specs.Greeting.{greeting};
 
-    /// The message of a start: its era, the generation that it goes on from or that the era is new,
-    /// the sessions that have a place, and the octets of a torn end, if there was one. Further
-    /// lines say how many sessions of an era with another account file go on, and by how much the
-    /// system's clock is behind, if either was found. It does not end in a line feed. It fails only
-    /// if memory is refused.
+    /// The message of a start: the generation that it goes on from or that the history is new, the
+    /// sessions that have a place, and the octets of a torn end, if there was one. Further lines say how
+    /// many sessions go on where the accounts have changed, and by how much the system's clock is behind,
+    /// if either was found. It does not end in a line feed. It fails only if memory is refused.
     pub fn greeting(&self, alloc: Global) -> Result<String, AllocError>
         ensures { IfOk result (λ text. string_bytes text ≡ greeting self.now) }
     {
         let mut text = String::new(alloc);
-        write_number(&mut text, "era ", self.era)?;
-        write_generation(&mut text, self.generation)?;
+        write_from(&mut text, self.from)?;
         write_number(&mut text, ": ", self.sessions)?;
         write_text(&mut text, " sessions")?;
         write_torn(&mut text, self.torn)?;
-        write_admitted(&mut text, self.sessions, self.admitted)?;
+        write_changed(&mut text, self.sessions, self.held)?;
         write_behind(&mut text, self.behind)?;
         Ok(text)
     }
 }
 
 /// Writes the generation that the server goes on from, if there is one.
-fn write_generation(text: &mut String, generation: u64) -> Result<(), AllocError>
+fn write_from(text: &mut String, from: Option<Generation>) -> Result<(), AllocError>
+    ensures { OnOk result (string_bytes text.new ≡ string_bytes text.old ++ from_text from) }
+{
+    match from {
+        Some(generation) => write_generation(text, generation),
+        None => write_text(text, "new history"),
+    }
+}
+
+/// Writes the number of a generation.
+fn write_generation(text: &mut String, generation: Generation) -> Result<(), AllocError>
     ensures { OnOk result
         (string_bytes text.new ≡ string_bytes text.old ++ generation_text generation) }
 {
-    if generation == 0 {
-        write_text(text, ", new")
-    } else {
-        write_number(text, ", generation ", generation)
+    match generation {
+        Generation::Former { number, .. } => write_number(text, "generation ", number),
+        Generation::Numbered(number) => write_number(text, "generation ", number),
     }
 }
 
@@ -52,22 +60,17 @@ fn write_torn(text: &mut String, torn: usize) -> Result<(), AllocError>
     write_text(text, " octets cut off")
 }
 
-/// Writes how many sessions of an era with another account file go on, if there was one.
-fn write_admitted(
-    text: &mut String,
-    sessions: u64,
-    admitted: Option<Admitted>,
-) -> Result<(), AllocError>
+/// Writes how many of the sessions that were held go on with other accounts, if these have changed.
+fn write_changed(text: &mut String, sessions: u64, held: Option<u64>) -> Result<(), AllocError>
     ensures { OnOk result
-        (string_bytes text.new ≡ string_bytes text.old ++ admitted_text sessions admitted) }
+        (string_bytes text.new ≡ string_bytes text.old ++ changed_text sessions held) }
 {
-    match admitted {
+    match held {
         None => Ok(()),
-        Some(admitted) => {
+        Some(held) => {
             write_number(text, "\naccounts changed: ", sessions)?;
-            write_number(text, " of ", admitted.sessions)?;
-            write_number(text, " sessions of era ", admitted.from.era)?;
-            write_text(text, " go on")
+            write_number(text, " of ", held)?;
+            write_text(text, " sessions go on")
         }
     }
 }

@@ -1,10 +1,7 @@
 //! The generation that a store writes.
 
 ghost use Rattle.std.specs.Prelude.{◌≡◌};
-ghost use Rattle.rld_start.specs.NextHeaders.{generation_named};
 
-use crate::header::generation_named;
-use rld_folder::Generation;
 use rld_log::Log;
 use rld_store::Store;
 
@@ -12,21 +9,21 @@ use rld_store::Store;
 /// one.
 #[derive(Clone, Copy)]
 pub struct Written {
-    generation: Generation,
+    generation: u64,
 }
 
 impl Written {
     /// The generation that this store writes.
     pub fn by<L: Log>(store: &Store<L>) -> Written
-        ensures { result.generation ≡ generation_named store.now.header }
+        ensures { result.generation ≡ store.now.header.generation }
     {
         Written {
-            generation: generation_named(&store.header()),
+            generation: store.header().generation,
         }
     }
 
-    /// The generation.
-    pub fn generation(self) -> Generation
+    /// The number of the generation.
+    pub fn generation(self) -> u64
         ensures { result ≡ self.generation }
     {
         self.generation

@@ -17,21 +17,25 @@ pub enum Cause {
     /// The octets spell nothing that can be here.
     #[error("{0}")]
     Malformed(spelling::Cause),
-    /// The header has the numbers of another generation than the name of the file.
+    /// The header has another number than the name of the file.
     #[error("a header of another generation")]
     OtherGeneration,
-    /// The header has the digest of another table than that of the era.
+    /// The log has another table than that of the accounts, or, of a version before 0.4, the digest of
+    /// another table than that of its era.
     #[error("a header of another table")]
     OtherTable,
-    /// The snapshot is not of the era's accounts.
+    /// The snapshot is not of the table's accounts.
     #[error("{0}")]
     Misfit(ServerFault),
     /// A move is of no account.
     #[error("a move of no account")]
     Foreign,
-    /// No account file has the table of the era.
+    /// No account file has the table.
     #[error("a table that no account file has")]
     NoConfiguration,
+    /// The log is of format 1 or 2.
+    #[error("a log of a version before 0.4, and version 0.3 reads it")]
+    Former,
     /// The snapshot is not whole, and there is no earlier generation with one.
     #[error("no whole snapshot, here or earlier")]
     Alone,
@@ -62,6 +66,7 @@ impl Wrong {
             StoreFault::Damaged(damage) => (damage.offset, Cause::Damaged),
             StoreFault::Unbegun => (HEAD_LEN, Cause::Alone),
             StoreFault::Malformed(bad) => (bad.offset, Cause::Malformed(bad.cause)),
+            StoreFault::OtherTable { offset } => (offset, Cause::OtherTable),
             StoreFault::Misfit { offset, fault } => (offset, Cause::Misfit(fault)),
             StoreFault::Foreign { offset } => (offset, Cause::Foreign),
             StoreFault::NoMemory
@@ -74,7 +79,7 @@ impl Wrong {
     }
 }
 
-/// A file of the folder that is damaged. It prints as `bad log: log-1-2 at 40: damaged`.
+/// A file of the folder that is damaged. It prints as `bad log: log-12 at 40: damaged`.
 #[derive(Clone, Copy, Debug)]
 pub struct BadLog {
     /// The file.
@@ -85,17 +90,6 @@ pub struct BadLog {
 
 impl fmt::Display for BadLog {
     fn fmt<W: fmt::Write>(&self, f: &mut fmt::Formatter<W>) -> fmt::Result {
-        f.write_str("bad log: ")?;
-        write_name(self.file, f)?;
-        write!(f, " {}", self.wrong)
-    }
-}
-
-/// Writes the name of a file in its folder.
-pub(crate) fn write_name<W: fmt::Write>(file: FileName, f: &mut fmt::Formatter<W>) -> fmt::Result {
-    match file {
-        FileName::Lock => f.write_str("lock"),
-        FileName::Era(era) => write!(f, "era-{era}"),
-        FileName::Log(generation) => write!(f, "log-{}-{}", generation.era, generation.number),
+        write!(f, "bad log: {} {}", self.file, self.wrong)
     }
 }

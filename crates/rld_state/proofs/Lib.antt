@@ -1,3 +1,3 @@
 pub mod Batches
 pub mod Pages
-pub mod SameEra
+pub mod SameTable

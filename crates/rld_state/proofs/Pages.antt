@@ -7,13 +7,13 @@ use Rattle.rld_state.specs.Listing.{AreHeldFrom, links_held}
 use Rattle.rsl_session.specs.Book.{BookLink}
 use Rattle.rsl_session.specs.Saved.{saved_links}
 use Rattle.rsl_session.specs.declared.saved.SavedLink.{SavedLink}
-use Rattle.rsl_shard.specs.Restep.{BooksSeen}
+use Rattle.rld_books.specs.Server.{ServerSeen}
 
-pub none_held : (books : List BooksSeen) (first : ℕ) → AreHeldFrom books first []
+pub none_held : (books : ServerSeen) (first : ℕ) → AreHeldFrom books first []
 unfolding AreHeldFrom
 none_held books first = tt
 
-pub one_more : (books : List BooksSeen) (first account : ℕ) (helds : List AccountLinks) (held : AccountLinks)
+pub one_more : (books : ServerSeen) (first account : ℕ) (helds : List AccountLinks) (held : AccountLinks)
     → AreHeldFrom books first helds → account ≡ first + length helds → held.account ≡ account
     → saved_links held.links.items ≡ links_held books account → AreHeldFrom books first (helds ++ held ∷ [])
 unfolding AreHeldFrom
@@ -24,11 +24,11 @@ one_more books first account (one ∷ helds) held before at number links =
 
 pub ruleset page_steps = (none_held, one_more)
 
-pub some_held : (books : List BooksSeen) (account : ℕ) (links : List SavedLink) → Some (saved_links links) ≡ links_in books account
+pub some_held : (books : ServerSeen) (account : ℕ) (links : List SavedLink) → Some (saved_links links) ≡ links_in books account
     → saved_links links ≡ links_held books account
 some_held books account links is = ap (λ (found : Option (List BookLink)). option_map_or (λ (links : List BookLink). links) found []) is
 
-pub none_there : (books : List BooksSeen) (account : ℕ) (links : List SavedLink) → links ≡ [] → None ≡ links_in books account
+pub none_there : (books : ServerSeen) (account : ℕ) (links : List SavedLink) → links ≡ [] → None ≡ links_in books account
     → saved_links links ≡ links_held books account
 unfolding saved_links
 none_there books account links none is =

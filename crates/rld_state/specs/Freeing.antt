@@ -1,9 +1,8 @@
 -- What comes of a session that is to be freed, or of all those of an access server.
 use Rattle.std.specs.Prelude.{◌≡◌, ◌⊎◌, ⊤, ℕ, Bool, true, false, List, [], ◌∷◌, ◌++◌, Option, Some, None, codes}
 use Rattle.rsl_accounts.specs.Configuration.{Configuration}
-use Rattle.rsl_shard.specs.Restep.{BooksSeen}
 use Rattle.rsl_shard.specs.declared.moved.Move.{Move}
-use Rattle.rld_books.specs.Server.{replay}
+use Rattle.rld_books.specs.Server.{ServerSeen, replay}
 use Rattle.rld_control.specs.Offs.{IsOffOf, sweep_of}
 use Rattle.rld_control.specs.Stops.{IsStopOf, move_of}
 use Rattle.rld_control.specs.declared.named.NamedServer.{NamedServer}
@@ -18,7 +17,7 @@ use Rattle.rld_state.specs.declared.freeing.Freed.TheVariants.{Done, NotHeld, Un
 -- A session is freed only where the books held a link that is bound to it, and what was recorded
 -- after them is its Stop and nothing else. It is not held only where they held none; and what says
 -- so is of these books, and of this Stop.
-abbrev pub IsFreedBy : List BooksSeen → Stop → (moment : ℕ) → Freed → Type 0
+abbrev pub IsFreedBy : ServerSeen → Stop → (moment : ℕ) → Freed → Type 0
 IsFreedBy books stop moment (Done recorded) =
     (is_held_in books stop ≡ true)
     × ((recorded.before ≡ books) × (recorded.batch ≡ move_of stop moment ∷ []))
@@ -27,7 +26,7 @@ IsFreedBy books stop moment (NotHeld unheld) =
 IsFreedBy books stop moment Unrecorded = is_held_in books stop ≡ true
 
 -- by the Stop of the session that was named
-pub record IsFreed (config : Configuration) (books : List BooksSeen) (named : NamedSession)
+pub record IsFreed (config : Configuration) (books : ServerSeen) (named : NamedSession)
     (moment : ℕ) (freed : Freed) : Type 0 where
   pub stop : Stop
   pub named_is : IsStopOf config named stop
@@ -35,21 +34,21 @@ pub record IsFreed (config : Configuration) (books : List BooksSeen) (named : Na
 
 -- Those of an access server are freed only where what was recorded after the books is its restart,
 -- and nothing else.
-abbrev pub AreFreedBy : List BooksSeen → Off → (moment : ℕ) → Freed → Type 0
+abbrev pub AreFreedBy : ServerSeen → Off → (moment : ℕ) → Freed → Type 0
 AreFreedBy books off moment (Done recorded) =
     (recorded.before ≡ books) × (recorded.batch ≡ sweep_of off moment ∷ [])
 AreFreedBy books off moment (NotHeld unheld) = ⊥
 AreFreedBy books off moment Unrecorded = ⊤
 
 -- by the Accounting-Off of the access server that was named
-pub record AreFreed (config : Configuration) (books : List BooksSeen) (named : NamedServer)
+pub record AreFreed (config : Configuration) (books : ServerSeen) (named : NamedServer)
     (moment : ℕ) (freed : Freed) : Type 0 where
   pub off : Off
   pub named_is : IsOffOf config named off
   pub freed_are : AreFreedBy books off moment freed
 
 -- the books after it: they have made what was recorded
-abbrev pub books_after_it : List BooksSeen → Freed → List BooksSeen
+abbrev pub books_after_it : ServerSeen → Freed → ServerSeen
 books_after_it books (Done recorded) = replay books recorded.batch
 books_after_it books (NotHeld unheld) = books
 books_after_it books Unrecorded = books
@@ -94,14 +93,14 @@ octets_of_freed Unrecorded = None
 -- a session was freed so, by some books of some accounts at some moment
 pub record WasFreed (named : NamedSession) (freed : Freed) : Type 0 where
   pub config : Configuration
-  pub books : List BooksSeen
+  pub books : ServerSeen
   pub moment : ℕ
   pub freed_is : IsFreed config books named moment freed
 
 -- those of an access server were freed so
 pub record WereFreed (named : NamedServer) (freed : Freed) : Type 0 where
   pub config : Configuration
-  pub books : List BooksSeen
+  pub books : ServerSeen
   pub moment : ℕ
   pub freed_are : AreFreed config books named moment freed
 

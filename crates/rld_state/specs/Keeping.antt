@@ -3,7 +3,6 @@ use Rattle.std.specs.Prelude.{◌≡◌, ⊤, ℕ, Bool, true, false, Result, Ok
 use Rattle.rld_store.specs.declared.fault.RecordFault.{RecordFault}
 use Rattle.rld_store.specs.declared.fault.RecordFault.TheVariants.{Ended, Failed}
 use Rattle.rld_look.specs.Totals.{plus}
-use Rattle.rld_folder.specs.declared.name.Generation.{Generation}
 use Rattle.rld_state.specs.declared.roll_fault.NotBegun.{NotBegun}
 use Rattle.rld_state.specs.declared.roll_fault.NotBegun.TheVariants.{PassedOver, Ended as NothingMore}
 use Rattle.rld_state.specs.declared.roll_fault.RollFault.{RollFault}
@@ -21,7 +20,7 @@ abbrev pub moves_after : {T : Type 0} → (moves count : ℕ) → Result T Recor
 moves_after moves count (Ok value) = plus moves count
 moves_after moves count (Err fault) = moves
 
--- a generation or an era did not begin, and nothing more can be recorded
+-- a generation did not begin, and nothing more can be recorded
 abbrev pub ends : NotBegun → Bool
 ends (PassedOver fault removed) = false
 ends NothingMore = true
@@ -32,7 +31,7 @@ is_over (Err refused) = ends refused
 
 -- The log of the generation that did not begin was removed, so that no start goes on from it; or
 -- nothing more can be recorded.
-abbrev pub IsGone : (failed : Generation) → NotBegun → Type 0
+abbrev pub IsGone : (failed : ℕ) → NotBegun → Type 0
 IsGone failed (PassedOver fault removed) = removed.generation ≡ failed
 IsGone failed NothingMore = ⊤
 

@@ -2,7 +2,6 @@ pub mod Clock
 pub mod Disconnecting
 pub mod Due
 pub mod Freeing
-pub mod Headers
 pub mod Held
 pub mod Keeping
 pub mod Listing

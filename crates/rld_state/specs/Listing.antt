@@ -5,14 +5,14 @@ use Rattle.rld_books.specs.Saved.{links_in}
 use Rattle.rld_control.specs.declared.listing.AccountLinks.{AccountLinks}
 use Rattle.rsl_session.specs.Book.{BookLink}
 use Rattle.rsl_session.specs.Saved.{saved_links}
-use Rattle.rsl_shard.specs.Restep.{BooksSeen}
+use Rattle.rld_books.specs.Server.{ServerSeen}
 
 -- the links of an account; none of one that is not there
-abbrev pub links_held : List BooksSeen → (account : ℕ) → List BookLink
+abbrev pub links_held : ServerSeen → (account : ℕ) → List BookLink
 links_held books account = option_map_or (λ (links : List BookLink). links) (links_in books account) []
 
 -- one account after the other from this one on, each with all its links, in their order
-unfoldable pub AreHeldFrom : List BooksSeen → (account : ℕ) → List AccountLinks → Type 0
+unfoldable pub AreHeldFrom : ServerSeen → (account : ℕ) → List AccountLinks → Type 0
 AreHeldFrom books account [] = ⊤
 AreHeldFrom books account (held ∷ rest) =
     (held.account ≡ account)

@@ -1,4 +1,4 @@
--- Whether the disk had no room for a generation or an era.
+-- Whether the disk had no room for a generation.
 use Rattle.std.specs.Prelude.{Bool, false, Result, Ok, Err}
 use Rattle.rld_start.specs.Room.{is_full_for, is_full_for_log}
 use Rattle.rld_state.specs.declared.reload_result.ReloadFault.{ReloadFault}

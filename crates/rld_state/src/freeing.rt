@@ -9,7 +9,7 @@ ghost use Rattle.rld_state.specs.Freeing.{AreFreed, AreFreedBy, IsFreed, IsFreed
 ghost use Rattle.rld_state.specs.Held.{is_held_in};
 ghost use Rattle.rld_store.specs.Stored.{HasRecorded};
 ghost use Rattle.rsl_accounts.specs.Configuration.{Configuration, account_number, client_number};
-ghost use Rattle.rsl_shard.specs.Restep.{BooksSeen};
+ghost use Rattle.rld_books.specs.Server.{ServerSeen};
 ghost use Rattle.rsl_shard.specs.declared.moved.Move.{Move as OneMove};
 
 use crate::not_held::NotHeld;
@@ -77,12 +77,12 @@ impl<L: Log + Drop> ServerState<L> {
 
         // The store has recorded what it had before, and that Stop.
         ensures stands { IsTrue (L.tells self.new.recorder.log) →
-            (config : Configuration) (opening : List BooksSeen) (history : List OneMove) →
+            (config : Configuration) (opening : ServerSeen) (history : List OneMove) →
             (IsTrue (L.tells self.old.recorder.log) →
-            HasRecorded config opening self.old.recorder.counts L.tears self.old.recorder.end
+            HasRecorded config opening self.old.recorder.counts self.old.recorder.table.items L.tears self.old.recorder.end
             (L.seen self.old.recorder.log) (L.may_leave self.old.recorder.log) self.old.recorder.whole
             self.old.recorder.books history) → IfOk result (λ freed.
-            HasRecorded config opening self.new.recorder.counts L.tears self.new.recorder.end
+            HasRecorded config opening self.new.recorder.counts self.new.recorder.table.items L.tears self.new.recorder.end
             (L.seen self.new.recorder.log) (L.may_leave self.new.recorder.log) self.new.recorder.whole
             self.new.recorder.books (history_after_it history freed)) }
     {
@@ -106,12 +106,12 @@ impl<L: Log + Drop> ServerState<L> {
 
         // The store has recorded what it had before, and that Stop.
         ensures stands { IsTrue (L.tells self.new.recorder.log) →
-            (config : Configuration) (opening : List BooksSeen) (history : List OneMove) →
+            (config : Configuration) (opening : ServerSeen) (history : List OneMove) →
             (IsTrue (L.tells self.old.recorder.log) →
-            HasRecorded config opening self.old.recorder.counts L.tears self.old.recorder.end
+            HasRecorded config opening self.old.recorder.counts self.old.recorder.table.items L.tears self.old.recorder.end
             (L.seen self.old.recorder.log) (L.may_leave self.old.recorder.log) self.old.recorder.whole
             self.old.recorder.books history) → IfOk result (λ freed.
-            HasRecorded config opening self.new.recorder.counts L.tears self.new.recorder.end
+            HasRecorded config opening self.new.recorder.counts self.new.recorder.table.items L.tears self.new.recorder.end
             (L.seen self.new.recorder.log) (L.may_leave self.new.recorder.log) self.new.recorder.whole
             self.new.recorder.books (history_after_it history freed)) }
     {
@@ -120,8 +120,8 @@ impl<L: Log + Drop> ServerState<L> {
             return Ok(Freed::NotHeld(unheld));
         }
         let batch = batch_of(alloc, stop.into_move(moment))?;
-        let era = self.header().era;
-        match self.record(alloc, Some(era), batch) {
+        let table = self.header().table;
+        match self.record(alloc, Some(table), batch) {
             Ok(recorded) => Ok(Freed::Done(recorded)),
             Err(_) => Ok(Freed::Unrecorded),
         }
@@ -154,12 +154,12 @@ impl<L: Log + Drop> ServerState<L> {
 
         // The store has recorded what it had before, and that restart.
         ensures stands { IsTrue (L.tells self.new.recorder.log) →
-            (config : Configuration) (opening : List BooksSeen) (history : List OneMove) →
+            (config : Configuration) (opening : ServerSeen) (history : List OneMove) →
             (IsTrue (L.tells self.old.recorder.log) →
-            HasRecorded config opening self.old.recorder.counts L.tears self.old.recorder.end
+            HasRecorded config opening self.old.recorder.counts self.old.recorder.table.items L.tears self.old.recorder.end
             (L.seen self.old.recorder.log) (L.may_leave self.old.recorder.log) self.old.recorder.whole
             self.old.recorder.books history) → IfOk result (λ freed.
-            HasRecorded config opening self.new.recorder.counts L.tears self.new.recorder.end
+            HasRecorded config opening self.new.recorder.counts self.new.recorder.table.items L.tears self.new.recorder.end
             (L.seen self.new.recorder.log) (L.may_leave self.new.recorder.log) self.new.recorder.whole
             self.new.recorder.books (history_after_it history freed)) }
     {
@@ -182,18 +182,18 @@ impl<L: Log + Drop> ServerState<L> {
 
         // The store has recorded what it had before, and that restart.
         ensures stands { IsTrue (L.tells self.new.recorder.log) →
-            (config : Configuration) (opening : List BooksSeen) (history : List OneMove) →
+            (config : Configuration) (opening : ServerSeen) (history : List OneMove) →
             (IsTrue (L.tells self.old.recorder.log) →
-            HasRecorded config opening self.old.recorder.counts L.tears self.old.recorder.end
+            HasRecorded config opening self.old.recorder.counts self.old.recorder.table.items L.tears self.old.recorder.end
             (L.seen self.old.recorder.log) (L.may_leave self.old.recorder.log) self.old.recorder.whole
             self.old.recorder.books history) → IfOk result (λ freed.
-            HasRecorded config opening self.new.recorder.counts L.tears self.new.recorder.end
+            HasRecorded config opening self.new.recorder.counts self.new.recorder.table.items L.tears self.new.recorder.end
             (L.seen self.new.recorder.log) (L.may_leave self.new.recorder.log) self.new.recorder.whole
             self.new.recorder.books (history_after_it history freed)) }
     {
         let batch = batch_of(alloc, off.into_move(moment))?;
-        let era = self.header().era;
-        match self.record(alloc, Some(era), batch) {
+        let table = self.header().table;
+        match self.record(alloc, Some(table), batch) {
             Ok(recorded) => Ok(Freed::Done(recorded)),
             Err(_fault) => Ok(Freed::Unrecorded),
         }

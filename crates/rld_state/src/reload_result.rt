@@ -8,33 +8,20 @@ use std::alloc::{AllocError, AllocFailed};
 use std::fmt;
 use thiserror::Error;
 
-/// The result of a reload. It prints as the line of an answer, without its line feed. The state of a
-/// server alone makes what it holds, where it has gone on so.
+/// The result of a reload. It prints as the line of an answer, without its line feed.
 #[derive(Clone, Copy)]
 pub enum Reloaded {
-    /// The present era goes on: names, rules, addresses and shards are as before.
-    GoesOn(PresentEra),
-    /// A new era has begun.
-    Begun(EraChange),
+    /// Names, rules and addresses are as before.
+    AsBefore,
+    /// The accounts have changed.
+    Changed(Change),
 }
 
-/// The era in which a running server has gone on by other accounts. Only `ServerState::go_on` makes
-/// one.
+/// What a change of the accounts does to sessions. Only `ServerState::change` makes one.
 #[derive(Clone, Copy)]
-pub struct PresentEra {
-    /// Its number.
-    pub(crate) era: u64,
-}
-
-/// The change of a running server from one era to the next. Only `ServerState::begin_era` makes one.
-#[derive(Clone, Copy)]
-pub struct EraChange {
-    /// The number of the era that has ended.
-    pub(crate) former: u64,
-    /// The number of sessions that held a link in the era that has ended.
+pub struct Change {
+    /// The number of sessions that held a link before.
     pub(crate) held: u64,
-    /// The number of the era that has begun.
-    pub(crate) era: u64,
     /// The number of those sessions that go on.
     pub(crate) sessions: u64,
 }
@@ -42,12 +29,10 @@ pub struct EraChange {
 impl fmt::Display for Reloaded {
     fn fmt<W: fmt::Write>(&self, f: &mut fmt::Formatter<W>) -> fmt::Result {
         match self {
-            Reloaded::GoesOn(present) => write!(f, "era {} goes on", present.era),
-            Reloaded::Begun(change) => write!(
-                f,
-                "era {}: {} of {} sessions of era {} go on",
-                change.era, change.sessions, change.held, change.former
-            ),
+            Reloaded::AsBefore => f.write_str("as before"),
+            Reloaded::Changed(change) => {
+                write!(f, "{} of {} sessions go on", change.sessions, change.held)
+            }
         }
     }
 }
@@ -58,8 +43,8 @@ pub enum ReloadFault {
     /// The accounts have changed while the others were prepared.
     #[error("the accounts have changed meanwhile")]
     Changed,
-    /// The new era could not begin.
-    #[error("no new era yet: {0}")]
+    /// The generation with the other accounts could not begin.
+    #[error("no change yet: {0}")]
     NotBegun(RollFault),
     /// Memory was refused.
     #[error("no memory")]
@@ -67,7 +52,7 @@ pub enum ReloadFault {
 }
 
 impl ReloadFault {
-    /// Whether the disk had no room for the new era.
+    /// Whether the disk had no room for the change.
     pub fn is_full(&self) -> bool
         ensures { result ≡ is_full_for_reload self.now }
     {

@@ -23,8 +23,8 @@ pub enum RollFault {
     /// Its header or its snapshot could not be written and synced. Its log is gone.
     #[error("{0}")]
     Store(StoreFault),
-    /// Another era or another generation has begun meanwhile. Its log is gone.
-    #[error("another era or generation has begun")]
+    /// Another generation has begun meanwhile. Its log is gone.
+    #[error("another generation has begun")]
     Former,
     /// Nothing more can be recorded: nothing could before, or the removal of the next generation's
     /// log is not certain.
@@ -32,7 +32,7 @@ pub enum RollFault {
     Ended,
 }
 
-/// What follows a generation or an era that did not begin.
+/// What follows a generation that did not begin.
 #[derive(Drop)]
 pub enum NotBegun {
     /// The present one goes on. The log of the other one was removed.

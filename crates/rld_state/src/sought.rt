@@ -1,6 +1,6 @@
 ghost use Rattle.std.specs.Prelude.{◌≡◌, List};
 ghost use Rattle.rld_control.specs.declared.stop.Stop.{Stop as OneStop};
-ghost use Rattle.rsl_shard.specs.Restep.{BooksSeen};
+ghost use Rattle.rld_books.specs.Server.{ServerSeen};
 
 use rld_books::ServerBooks;
 use rld_control::Stop;
@@ -11,7 +11,7 @@ use std::marker::Model;
 /// Contracts alone read it: it has no octets, and making one does nothing.
 #[derive(Drop)]
 pub(crate) struct Sought {
-    ghost books: { List BooksSeen },
+    ghost books: { ServerSeen },
     ghost stop: { OneStop },
 }
 

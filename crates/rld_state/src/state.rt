@@ -1,27 +1,25 @@
 ghost use Rattle.std.specs.Prelude.{◌≡◌, ◌<◌, ℕ, true, length, Err, IfErr, IfNone, IfOk, IfSome, IsErrOf, IsSome, OnErr, OnOk, OnSome, List, [], ◌++◌, ◌||◌, ◌↔◌, false, IsTrue, MatchResult, Ok};
 ghost use Rattle.std.specs.Arc.{arc_value};
 ghost use Rattle.rld_books.specs.Saved.{IsServerOf};
-ghost use Rattle.rld_books.specs.Server.{decisions_of, replay};
-ghost use Rattle.rld_state.specs.Headers.{IsHeaderOf};
+ghost use Rattle.rld_books.specs.Server.{ServerSeen, decisions_of, replay};
 ghost use Rattle.rld_state.specs.Keeping.{IsGone, ends, is_failed, is_over, moves_after};
 ghost use Rattle.rld_spelling.specs.Tables.{table_of};
-ghost use Rattle.rld_start.specs.NextHeaders.{generation_named, header_after};
+ghost use Rattle.rld_start.specs.NextHeaders.{header_after};
+ghost use Rattle.rld_store.specs.Generations.{octets_of};
 ghost use Rattle.rld_store.specs.Premises.{Only};
-ghost use Rattle.rld_store.specs.Recorded.{AreDecided, IsOfEra, is_ended, is_last};
+ghost use Rattle.rld_store.specs.Recorded.{AreDecided, IsOfTable, is_ended, is_last};
 ghost use Rattle.rld_store.specs.Standing.{StandsFor};
 ghost use Rattle.rld_store.specs.Stored.{HasRecorded};
 ghost use Rattle.rld_store.specs.declared.fault.RecordFault.TheVariants.{Ended as over, Failed as failed};
 ghost use Rattle.rsl_accounts.specs.Configuration.{Configuration};
-ghost use Rattle.rsl_shard.specs.Restep.{BooksSeen};
 ghost use Rattle.rsl_shard.specs.declared.moved.Move.{Move as OneMove};
 
 use crate::changing::Opening;
-use crate::reload_result::{PresentEra, Reloaded};
 use crate::roll_fault::{NotBegun, RollFault};
-use rld_folder::{FolderFault, Generation, LogKey, Removed};
+use rld_folder::{FolderFault, LogKey, Removed};
 use rld_log::Log;
 use rld_spelling::Header;
-use rld_start::{Generations, NextLog, StartFault, is_same_era, next_header};
+use rld_start::{Generations, NextLog, StartFault, has_same_table, next_header};
 use rld_store::{RecordFault, Recorded, Store};
 use rsl_accounts::Config;
 use rsl_shard::Move;
@@ -29,13 +27,13 @@ use std::alloc::{AllocError, Global};
 use std::mem;
 use std::sync::Arc;
 
-/// Whether a batch that was prepared with the accounts of the era `era`, or that names no account, if
-/// that is `None`, can be recorded in the era `own`.
-fn is_of_era(era: Option<u64>, own: u64) -> bool
-    ensures { IsTrue result ↔ IsOfEra era own }
+/// Whether a batch that was prepared with the accounts of this table, or that names no account, if that
+/// is `None`, can be recorded where the table `own` is present.
+fn is_of_table(table: Option<u64>, own: u64) -> bool
+    ensures { IsTrue result ↔ IsOfTable table own }
 {
-    match era {
-        Some(era) => own == era,
+    match table {
+        Some(table) => own == table,
         None => true,
     }
 }
@@ -58,49 +56,45 @@ struct Unbegun {
 /// nothing more; the accounts, clients and rules of its books; the number of moves of the generation
 /// that it writes; and whether a batch was not recorded recently.
 ///
-/// What each of its values keeps, whoever has the lock: its books are of these accounts, the header of
-/// that generation has the digest of their table under the boot number, and the right to remove its log
-/// is kept: nothing else can remove it.
+/// What each of its values keeps, whoever has the lock: its books are of these accounts, that
+/// generation has their table, and the right to remove its log is kept: nothing else can remove it.
 #[derive(Drop)]
 pub struct ServerState<L: Log> {
     recorder: Store<L>,
     config: Arc<Config>,
-    boot: u64,
     key: LogKey,
     moves: u64,
     has_ended: bool,
     has_failed: bool,
     ghost server: { IsServerOf (arc_value config) recorder.books },
-    ghost table: { IsHeaderOf boot (arc_value config) recorder.header },
-    ghost kept: { key.generation ≡ generation_named recorder.header },
+    ghost table: { recorder.table.items ≡ octets_of (arc_value config) },
+    ghost kept: { key.generation ≡ recorder.header.generation },
 }
 
 impl<L: Log + Drop> ServerState<L> {
-    /// Records a batch that was prepared with the accounts of the era `era`, or that names no
+    /// Records a batch that was prepared with the accounts of the table of this number, or that names no
     /// account, if that is `None`, and counts its moves. `Ended` comes if it has come before, and
-    /// `Failed` if another era goes on, whose numbers mean other accounts; then the recorder is not
+    /// `Failed` if another table is present, whose numbers mean other accounts; then the recorder is not
     /// called.
     pub fn record(
         &mut self,
         alloc: Global,
-        era: Option<u64>,
+        table: Option<u64>,
         batch: Vec<Move>,
     ) -> Result<Recorded, RecordFault>
         ensures count { IfOk result (λ recorded. length recorded.decisions ≡ length batch.items) }
         ensures batch { IfOk result (λ recorded. recorded.batch ≡ batch.items) }
         ensures decided { IfOk result AreDecided }
-        ensures era { IfOk result (λ recorded. IsOfEra era recorded.era) }
-        ensures present { IfOk result (λ recorded. recorded.era ≡ self.old.recorder.header.era) }
+        ensures of { IfOk result (λ recorded. IsOfTable table recorded.table) }
+        ensures present { IfOk result (λ recorded. recorded.table ≡ self.old.recorder.header.table) }
         ensures given_up { self.old.has_ended ≡ true → (result ≡ Err over) × (self.new ≡ self.old) }
-        ensures other_era { (IsOfEra era self.old.recorder.header.era → ⊥) → self.old.has_ended ≡ false →
+        ensures other_table { (IsOfTable table self.old.recorder.header.table → ⊥) → self.old.has_ended ≡ false →
             (result ≡ Err failed) × (self.new.recorder ≡ self.old.recorder) }
         ensures ended { self.new.has_ended ≡ (self.old.has_ended || is_ended result) }
         ensures failed { self.new.has_failed ≡ (self.old.has_failed || is_failed result) }
         ensures moves { self.new.moves ≡ moves_after self.old.moves (length batch.items) result }
         ensures header { self.new.recorder.header ≡ self.old.recorder.header }
         ensures config { self.new.config ≡ self.old.config }
-
-        ensures boot { self.new.boot ≡ self.old.boot }
 
         // As long as the store could record more, it is noted exactly whether it still can.
         ensures over { self.old.has_ended ≡ false → self.old.recorder.is_over ≡ false →
@@ -116,21 +110,21 @@ impl<L: Log + Drop> ServerState<L> {
 
         // Over a log that tells, the store has recorded what it had before, and the batch.
         ensures recorded { IsTrue (L.tells self.new.recorder.log) →
-            (config : Configuration) (opening : List BooksSeen) (history : List OneMove) →
+            (config : Configuration) (opening : ServerSeen) (history : List OneMove) →
             (IsTrue (L.tells self.old.recorder.log) →
-            HasRecorded config opening self.old.recorder.counts L.tears self.old.recorder.end
+            HasRecorded config opening self.old.recorder.counts self.old.recorder.table.items L.tears self.old.recorder.end
             (L.seen self.old.recorder.log) (L.may_leave self.old.recorder.log) self.old.recorder.whole
             self.old.recorder.books history) → OnOk result
-            (HasRecorded config opening self.new.recorder.counts L.tears self.new.recorder.end
+            (HasRecorded config opening self.new.recorder.counts self.new.recorder.table.items L.tears self.new.recorder.end
             (L.seen self.new.recorder.log) (L.may_leave self.new.recorder.log) self.new.recorder.whole
             self.new.recorder.books (history ++ batch.items)) }
         ensures unrecorded { IsTrue (L.tells self.new.recorder.log) →
-            (config : Configuration) (opening : List BooksSeen) (history : List OneMove) →
+            (config : Configuration) (opening : ServerSeen) (history : List OneMove) →
             (IsTrue (L.tells self.old.recorder.log) →
-            HasRecorded config opening self.old.recorder.counts L.tears self.old.recorder.end
+            HasRecorded config opening self.old.recorder.counts self.old.recorder.table.items L.tears self.old.recorder.end
             (L.seen self.old.recorder.log) (L.may_leave self.old.recorder.log) self.old.recorder.whole
             self.old.recorder.books history) → OnErr result
-            (HasRecorded config opening self.new.recorder.counts L.tears self.new.recorder.end
+            (HasRecorded config opening self.new.recorder.counts self.new.recorder.table.items L.tears self.new.recorder.end
             (L.seen self.new.recorder.log) (L.may_leave self.new.recorder.log) self.new.recorder.whole
             self.new.recorder.books history) }
     {
@@ -138,7 +132,7 @@ impl<L: Log + Drop> ServerState<L> {
             drop(batch);
             return Err(RecordFault::Ended);
         }
-        if !is_of_era(era, self.header().era) {
+        if !is_of_table(table, self.header().table) {
             drop(batch);
             self.has_failed = true;
             return Err(RecordFault::Failed);
@@ -187,13 +181,19 @@ impl<L: Log + Drop> ServerState<L> {
         Arc::try_clone(&self.config)
     }
 
-    /// The boot number of its Classes, under which its header has the digest of the table of its
-    /// accounts.
+    /// The boot number of its Classes.
     pub fn boot(&self) -> u64
-        ensures boot { result ≡ self.now.boot }
-        ensures table { IsHeaderOf result (arc_value self.now.config) self.now.recorder.header }
+        ensures { result ≡ self.now.recorder.header.boot }
     {
-        self.boot
+        self.header().boot
+    }
+
+    /// The number of the table of these accounts, which the log of its generation has.
+    pub fn table(&self) -> u64
+        ensures number { result ≡ self.now.recorder.header.table }
+        ensures octets { self.now.recorder.table.items ≡ octets_of (arc_value self.now.config) }
+    {
+        self.header().table
     }
 
     /// The accounts, clients and rules, borrowed.
@@ -207,7 +207,7 @@ impl<L: Log + Drop> ServerState<L> {
     /// one was removed. If it was not, nothing more is recorded.
     pub(crate) fn pass_over(
         &mut self,
-        failed: Generation,
+        failed: u64,
         fault: RollFault,
         removed: Result<Removed, FolderFault>,
     ) -> NotBegun
@@ -218,7 +218,6 @@ impl<L: Log + Drop> ServerState<L> {
         ensures ended { self.new.has_ended ≡ (self.old.has_ended || ends result) }
         ensures recorder { self.new.recorder ≡ self.old.recorder }
         ensures config { self.new.config ≡ self.old.config }
-        ensures boot { self.new.boot ≡ self.old.boot }
         ensures key { self.new.key ≡ self.old.key }
         ensures moves { self.new.moves ≡ self.old.moves }
         ensures failed { self.new.has_failed ≡ self.old.has_failed }
@@ -245,7 +244,6 @@ impl<L: Log + Drop> ServerState<L> {
         ensures taken { self.new.has_failed ≡ false }
         ensures recorder { self.new.recorder ≡ self.old.recorder }
         ensures config { self.new.config ≡ self.old.config }
-        ensures boot { self.new.boot ≡ self.old.boot }
         ensures key { self.new.key ≡ self.old.key }
         ensures moves { self.new.moves ≡ self.old.moves }
         ensures ended { self.new.has_ended ≡ self.old.has_ended }
@@ -257,16 +255,14 @@ impl<L: Log + Drop> ServerState<L> {
 }
 
 impl<L: Log + Drop> ServerState<L> {
-    /// The state of a server whose store has recorded nothing since it was made. Its books are of
-    /// this configuration, and it writes the generation of this header, with no move yet, which has
-    /// the digest of the table of these accounts under this boot number.
-    pub fn new(store: Store<L>, config: Arc<Config>, boot: u64, key: LogKey) -> ServerState<L>
+    /// The state of a server whose store has recorded nothing since it was made. Its books and its table
+    /// are of this configuration, and it writes the generation of this key, with no move yet.
+    pub fn new(store: Store<L>, config: Arc<Config>, key: LogKey) -> ServerState<L>
         requires server { IsServerOf (arc_value config) store.books }
-        requires table { IsHeaderOf boot (arc_value config) store.header }
-        requires kept { key.generation ≡ generation_named store.header }
+        requires table { store.table.items ≡ octets_of (arc_value config) }
+        requires kept { key.generation ≡ store.header.generation }
         ensures recorder { result.recorder ≡ store }
         ensures config { result.config ≡ config }
-        ensures boot { result.boot ≡ boot }
         ensures key { result.key ≡ key }
         ensures moves { result.moves ≡ 0 }
         ensures has_ended { result.has_ended ≡ false }
@@ -275,7 +271,6 @@ impl<L: Log + Drop> ServerState<L> {
         ServerState {
             recorder: store,
             config,
-            boot,
             key,
             moves: 0,
             has_ended: false,
@@ -289,8 +284,8 @@ impl<L: Log + Drop> ServerState<L> {
     /// After a fault the log is removed before anything more is recorded, since its snapshot may be
     /// whole, and a start would go on from it: then the present generation goes on. `Ended` comes
     /// if the removal of the log is not certain, and if nothing more could be recorded before: then
-    /// nothing more is recorded. A log of another era, or of a generation that is not above the
-    /// present one, is `Former`, and removed too. The log of the former generation is handed out.
+    /// nothing more is recorded. A log of a generation that is not above the present one is `Former`, and
+    /// removed too. The log of the former generation is handed out.
     pub fn roll<G: Generations>(
         &mut self,
         alloc: Global,
@@ -304,11 +299,9 @@ impl<L: Log + Drop> ServerState<L> {
             (self.old.recorder.header.generation < self.new.recorder.header.generation) }
         ensures key { OnOk result (self.new.key ≡ next.key) }
         ensures header { OnOk result (self.new.recorder.header
-            ≡ header_after self.old.recorder.header next.key.generation.number self.old.moves) }
-        ensures era { OnOk result (next.key.generation.era ≡ self.old.recorder.header.era) }
+            ≡ header_after self.old.recorder.header next.key.generation self.old.moves) }
         ensures moves { OnOk result (self.new.moves ≡ 0) }
         ensures config { self.new.config ≡ self.old.config }
-        ensures boot { self.new.boot ≡ self.old.boot }
         ensures ended { self.new.has_ended ≡ (self.old.has_ended || is_over result) }
         ensures failed { self.new.has_failed ≡ self.old.has_failed }
         ensures books { self.new.recorder.books ≡ self.old.recorder.books }
@@ -317,10 +310,10 @@ impl<L: Log + Drop> ServerState<L> {
 
         // The store stands for the same history, by the next log alone.
         ensures stands { IsTrue (L.tells self.new.recorder.log) → Only (L.seen next.log) (L.may_leave next.log) →
-            (config : Configuration) (opening : List BooksSeen) (history unanswered : List OneMove) →
-            StandsFor config opening self.old.recorder.counts L.tears self.old.recorder.end (L.seen self.old.recorder.log)
+            (config : Configuration) (opening : ServerSeen) (history unanswered : List OneMove) →
+            StandsFor config opening self.old.recorder.counts self.old.recorder.table.items L.tears self.old.recorder.end (L.seen self.old.recorder.log)
             (L.may_leave self.old.recorder.log) self.old.recorder.whole self.old.recorder.books history unanswered →
-            OnOk result (StandsFor config opening self.new.recorder.counts L.tears self.new.recorder.end (L.seen self.new.recorder.log)
+            OnOk result (StandsFor config opening self.new.recorder.counts self.new.recorder.table.items L.tears self.new.recorder.end (L.seen self.new.recorder.log)
             (L.may_leave self.new.recorder.log) self.new.recorder.whole self.new.recorder.books history []) }
 
         // After a fault the present generation stays, with its log and its count.
@@ -342,19 +335,17 @@ impl<L: Log + Drop> ServerState<L> {
         }
     }
 
-    /// Goes on in the generation of this key, in its empty log, if it is a later one of the present
-    /// era, and keeps the key in place of the former one. The log of the former one is handed out.
+    /// Goes on in the generation of this key, in its empty log, if it is a later one than the present
+    /// one, and keeps the key in place of the former one. The log of the former one is handed out.
     fn begin_in(&mut self, alloc: Global, key: LogKey, log: L) -> Result<L, Unbegun>
         ensures key { OnOk result (self.new.key ≡ key) }
         ensures unbegun { IfErr result (λ unbegun. unbegun.key ≡ key) }
         ensures header { OnOk result (self.new.recorder.header
-            ≡ header_after self.old.recorder.header key.generation.number self.old.moves) }
+            ≡ header_after self.old.recorder.header key.generation self.old.moves) }
         ensures newer { OnOk result
             (self.old.recorder.header.generation < self.new.recorder.header.generation) }
-        ensures era { OnOk result (key.generation.era ≡ self.old.recorder.header.era) }
         ensures moves { OnOk result (self.new.moves ≡ 0) }
         ensures config { self.new.config ≡ self.old.config }
-        ensures boot { self.new.boot ≡ self.old.boot }
         ensures ended { self.new.has_ended ≡ self.old.has_ended }
         ensures failed { self.new.has_failed ≡ self.old.has_failed }
         ensures going_on { IfErr result (λ unbegun. unbegun.fault ≡ RollFault.Ended → ⊥) }
@@ -367,19 +358,19 @@ impl<L: Log + Drop> ServerState<L> {
         ensures books { self.new.recorder.books ≡ self.old.recorder.books }
         ensures over { self.new.recorder.is_over ≡ self.old.recorder.is_over }
         ensures stands { IsTrue (L.tells self.new.recorder.log) → Only (L.seen log) (L.may_leave log) →
-            (config : Configuration) (opening : List BooksSeen) (history unanswered : List OneMove) →
-            StandsFor config opening self.old.recorder.counts L.tears self.old.recorder.end (L.seen self.old.recorder.log)
+            (config : Configuration) (opening : ServerSeen) (history unanswered : List OneMove) →
+            StandsFor config opening self.old.recorder.counts self.old.recorder.table.items L.tears self.old.recorder.end (L.seen self.old.recorder.log)
             (L.may_leave self.old.recorder.log) self.old.recorder.whole self.old.recorder.books history unanswered →
-            OnOk result (StandsFor config opening self.new.recorder.counts L.tears self.new.recorder.end (L.seen self.new.recorder.log)
+            OnOk result (StandsFor config opening self.new.recorder.counts self.new.recorder.table.items L.tears self.new.recorder.end (L.seen self.new.recorder.log)
             (L.may_leave self.new.recorder.log) self.new.recorder.whole self.new.recorder.books history []) }
     {
         let generation = key.generation();
         let present = self.header();
-        if generation.era != present.era || generation.number <= present.generation {
+        if generation <= present.generation {
             let fault = RollFault::Former;
             return Err(Unbegun { key, fault });
         }
-        let Some(header) = next_header(&present, generation.number, self.moves) else {
+        let Some(header) = next_header(&present, generation, self.moves) else {
             let fault = RollFault::Start(StartFault::NoNumber);
             return Err(Unbegun { key, fault });
         };
@@ -396,59 +387,52 @@ impl<L: Log + Drop> ServerState<L> {
         }
     }
 
-    /// Goes on by other accounts in the present era, if it has their table, and gives that era; where it
-    /// has not, it gives `None`, and all is as before. Nothing is copied or made for it, since receivers
-    /// rest meanwhile.
-    pub fn go_on(&mut self, config: Arc<Config>) -> Option<Reloaded>
-        ensures same { (boot : ℕ) → IsSome result ↔
-            (table_of boot (arc_value self.old.config) ≡ table_of boot (arc_value config)) }
-        ensures era { IfSome result (λ reloaded.
-            reloaded ≡ Reloaded.GoesOn (record { era = self.old.recorder.header.era })) }
-        ensures config { OnSome result (self.new.config ≡ config) }
+    /// Goes on by other accounts, if these have the present table, and says whether they have; where they
+    /// have not, all is as before. Nothing is copied or made for it, since receivers rest meanwhile.
+    pub fn go_on(&mut self, config: Arc<Config>) -> bool
+        ensures same { IsTrue result ↔
+            (table_of (arc_value self.old.config) ≡ table_of (arc_value config)) }
+        ensures config { IsTrue result → self.new.config ≡ config }
         ensures recorder { self.new.recorder ≡ self.old.recorder }
-        ensures boot { self.new.boot ≡ self.old.boot }
         ensures key { self.new.key ≡ self.old.key }
         ensures moves { self.new.moves ≡ self.old.moves }
         ensures ended { self.new.has_ended ≡ self.old.has_ended }
         ensures failed { self.new.has_failed ≡ self.old.has_failed }
-        ensures kept { IfNone result (self.new ≡ self.old) }
+        ensures kept { result ≡ false → self.new ≡ self.old }
 
         // The store stands for its history by the accounts that the state then has.
-        ensures stands { (opening : List BooksSeen) (history unanswered : List OneMove) →
-            StandsFor (arc_value self.old.config) opening self.old.recorder.counts L.tears self.old.recorder.end
+        ensures stands { (opening : ServerSeen) (history unanswered : List OneMove) →
+            StandsFor (arc_value self.old.config) opening self.old.recorder.counts self.old.recorder.table.items L.tears self.old.recorder.end
             (L.seen self.old.recorder.log) (L.may_leave self.old.recorder.log) self.old.recorder.whole
             self.old.recorder.books history unanswered →
-            StandsFor (arc_value self.new.config) opening self.new.recorder.counts L.tears self.new.recorder.end
+            StandsFor (arc_value self.new.config) opening self.new.recorder.counts self.new.recorder.table.items L.tears self.new.recorder.end
             (L.seen self.new.recorder.log) (L.may_leave self.new.recorder.log) self.new.recorder.whole
             self.new.recorder.books history unanswered }
     {
-        let goes_on = is_same_era(&*self.config, &*config);
+        let goes_on = has_same_table(&*self.config, &*config);
         if goes_on {
-            let era = self.header().era;
             self.config = config;
-            Some(Reloaded::GoesOn(PresentEra { era }))
+            true
         } else {
-            None
+            false
         }
     }
 
-    /// Goes on in an era that was begun, by its accounts under this boot number, and hands out the
-    /// store of the former one.
+    /// Goes on in a generation that was begun with other accounts, and hands out the store of the former
+    /// ones.
     pub(crate) fn enter(
         &mut self,
         opening: Opening<L>,
         key: LogKey,
         config: Arc<Config>,
-        boot: u64,
     ) -> Store<L>
-        requires synced { opening.synced.generation ≡ generation_named opening.store.header }
+        requires synced { opening.synced.generation ≡ opening.store.header.generation }
         requires server { IsServerOf (arc_value config) opening.store.books }
-        requires table { IsHeaderOf boot (arc_value config) opening.store.header }
-        requires kept { key.generation ≡ generation_named opening.store.header }
+        requires table { opening.store.table.items ≡ octets_of (arc_value config) }
+        requires kept { key.generation ≡ opening.store.header.generation }
         ensures recorder { self.new.recorder ≡ opening.store }
         ensures key { self.new.key ≡ key }
         ensures config { self.new.config ≡ config }
-        ensures boot { self.new.boot ≡ boot }
         ensures moves { self.new.moves ≡ 0 }
         ensures ended { self.new.has_ended ≡ self.old.has_ended }
         ensures failed { self.new.has_failed ≡ self.old.has_failed }
@@ -456,7 +440,6 @@ impl<L: Log + Drop> ServerState<L> {
     {
         let Opening { store, .. } = opening;
         self.config = config;
-        self.boot = boot;
         self.key = key;
         self.moves = 0;
         mem::replace(&mut self.recorder, store)

@@ -31,8 +31,6 @@ pub enum Told {
 /// Where a server stands as it ends.
 #[derive(Clone, Copy)]
 pub struct Standing {
-    /// The number of its era.
-    pub era: u64,
     /// The number of the generation that it wrote.
     pub generation: u64,
     /// The number of sessions that hold a link.
@@ -85,8 +83,8 @@ impl fmt::Display for ToldLine {
             Told::Room(made) => made.fmt(f)?,
             Told::Stopped(standing) => write!(
                 f,
-                "stopped: era {}, generation {}: {} sessions",
-                standing.era, standing.generation, standing.sessions
+                "stopped: generation {}: {} sessions",
+                standing.generation, standing.sessions
             )?,
         }
         f.write_str("\n")

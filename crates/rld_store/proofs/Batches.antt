@@ -4,28 +4,27 @@ use Rattle.std.specs.List.{AllByRecursion}
 use Rattle.std.proofs.lemmas.List.{map-append}
 use Rattle.std.proofs.lemmas.List.Concat.{flat_map-append}
 use Rattle.rsl_accounts.specs.Configuration.{Configuration}
-use Rattle.rsl_shard.specs.Restep.{BooksSeen}
 use Rattle.rsl_shard.specs.declared.moved.Move.{Move}
-use Rattle.rld_books.specs.Server.{replay, server_after}
+use Rattle.rld_books.specs.Server.{ServerSeen, replay, server_after}
 use Rattle.rld_log.specs.Frames.{Fits, digest, frame, frames}
 use Rattle.rld_log.proofs.Callers.{frame_shape, frames_more, parts_of}
 use Rattle.rld_spelling.specs.Moves.{moves_field}
 use Rattle.rld_spelling.specs.declared.header.Header.{Header}
 use Rattle.rld_spelling.specs.declared.moves.Counts.{Counts}
-use Rattle.rld_store.specs.Generations.{AreBatches, AreOfHistory, IsGeneration, counts_of, moves_in}
+use Rattle.rld_store.specs.Generations.{AreBatches, AreOfHistory, IsGeneration, counts_of, moves_in, octets_of}
 
 -- ---- lists
 
-pub replay_more : (begun : List BooksSeen) (earlier life : List Move) → replay begun (earlier ++ life) ≡ replay (replay begun earlier) life
+pub replay_more : (begun : ServerSeen) (earlier life : List Move) → replay begun (earlier ++ life) ≡ replay (replay begun earlier) life
 unfolding replay
 replay_more begun [] life = refl
 replay_more begun (moved ∷ earlier) life = replay_more (server_after begun moved) earlier life
 
-pub replay_none : (now : List BooksSeen) → replay now [] ≡ now
+pub replay_none : (now : ServerSeen) → replay now [] ≡ now
 unfolding replay
 replay_none now = refl
 
-pub replay_first : (now : List BooksSeen) (moved : Move) (rest : List Move) → replay (server_after now moved) rest ≡ replay now (moved ∷ rest)
+pub replay_first : (now : ServerSeen) (moved : Move) (rest : List Move) → replay (server_after now moved) rest ≡ replay now (moved ∷ rest)
 unfolding replay
 replay_first now moved rest = refl
 
@@ -59,10 +58,10 @@ batches_more counts moves batch payloads payload so fit is = record {
       ∙ sym (map-append (moves_field counts).spell so.batches (batch ∷ []));
 }
 
-generation_more : (counts : Counts) (header : Header) (begun : List BooksSeen) (moves batch : List Move) (payloads : List (List ℕ)) (payload : List ℕ)
-    → IsGeneration counts header begun moves payloads → (moves_field counts).Fits batch → payload ≡ (moves_field counts).spell batch
-    → IsGeneration counts header begun (moves ++ batch) (payloads ++ payload ∷ [])
-generation_more counts header begun moves batch payloads payload so fit is = record {
+generation_more : (counts : Counts) (table : List ℕ) (header : Header) (begun : ServerSeen) (moves batch : List Move) (payloads : List (List ℕ)) (payload : List ℕ)
+    → IsGeneration counts table header begun moves payloads → (moves_field counts).Fits batch → payload ≡ (moves_field counts).spell batch
+    → IsGeneration counts table header begun (moves ++ batch) (payloads ++ payload ∷ [])
+generation_more counts table header begun moves batch payloads payload so fit is = record {
   header_fits = so.header_fits;
   snapshot = so.snapshot;
   snapshot_is = so.snapshot_is;
@@ -71,7 +70,7 @@ generation_more counts header begun moves batch payloads payload so fit is = rec
   payloads_are = ap (λ (l : List (List ℕ)). l ++ payload ∷ []) so.payloads_are;
 }
 
-pub history_more : (config : Configuration) (opening : List BooksSeen) (history batch : List Move) (payloads : List (List ℕ)) (payload : List ℕ) → AreOfHistory config opening history payloads
+pub history_more : (config : Configuration) (opening : ServerSeen) (history batch : List Move) (payloads : List (List ℕ)) (payload : List ℕ) → AreOfHistory config opening history payloads
     → (moves_field (counts_of config)).Fits batch → payload ≡ (moves_field (counts_of config)).spell batch → AreOfHistory config opening (history ++ batch) (payloads ++ payload ∷ [])
 history_more config opening history batch payloads payload so fit is = record {
   opening_is = so.opening_is;
@@ -79,5 +78,5 @@ history_more config opening history batch payloads payload so fit is = record {
   earlier = so.earlier;
   moves = so.moves ++ batch;
   are = ap (λ (l : List Move). l ++ batch) so.are ∙ append_assoc so.earlier so.moves batch;
-  generation = generation_more (counts_of config) so.header (replay opening so.earlier) so.moves batch payloads payload so.generation fit is;
+  generation = generation_more (counts_of config) (octets_of config) so.header (replay opening so.earlier) so.moves batch payloads payload so.generation fit is;
 }

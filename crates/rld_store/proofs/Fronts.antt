@@ -7,10 +7,9 @@ use Rattle.std.proofs.lemmas.List.Elements.{All-nil, All-push}
 use Rattle.rsl_accounts.specs.Configuration.{Configuration}
 use Rattle.rsl_session.specs.Saved.{saved_book}
 use Rattle.rsl_session.specs.declared.saved.SavedBook.{SavedBook}
-use Rattle.rsl_shard.specs.Restep.{BooksSeen}
 use Rattle.rsl_shard.specs.declared.moved.Move.{Move}
 use Rattle.rld_books.specs.Saved.{IsServerOf, saved_server}
-use Rattle.rld_books.specs.Server.{replay}
+use Rattle.rld_books.specs.Server.{ServerSeen, replay}
 use Rattle.rld_spelling.specs.Numbers.{number_octets}
 use Rattle.rld_log.specs.Frames.{Fits, HasPayloads, frames}
 use Rattle.rld_log.specs.Log.{NoMore, Only}
@@ -21,7 +20,7 @@ use Rattle.rld_spelling.specs.Books.{BookSeen, book_field, book_octets, book_see
 use Rattle.rld_spelling.specs.declared.header.Header.{Header}
 use Rattle.rld_spelling.specs.declared.moves.Counts.{Counts}
 use Rattle.rld_store.specs.Beginning.{HasAtMostOne, IsBegun, IsFront}
-use Rattle.rld_store.specs.Generations.{AreOfHistory, HasGeneration, HasHistory, HasHistoryOr, IsGeneration, IsSnapshot, IsUnbegun, StandForHistory, counts_of}
+use Rattle.rld_store.specs.Generations.{AreOfHistory, HasGeneration, HasHistory, HasHistoryOr, IsGeneration, IsSnapshot, IsUnbegun, StandForHistory, counts_of, octets_of}
 use Rattle.rld_spelling.specs.Moves.{move_field, moves_field}
 use Rattle.rld_store.specs.Standing.{StandsFor}
 use Rattle.rld_store.specs.declared.store.End.TheVariants.{Settled}
@@ -70,7 +69,7 @@ octets_begun books before octets count none is are =
 
 -- ---- the front of a generation
 
-pub is_snapshot : (counts : Counts) (server : List BooksSeen) (books : List SavedBook) (octets : List ℕ) → map saved_book books ≡ saved_server server
+pub is_snapshot : (counts : Counts) (server : ServerSeen) (books : List SavedBook) (octets : List ℕ) → map saved_book books ≡ saved_server server
     → octets ≡ (books_field counts.clients).spell (books_seen books) → (books_field counts.clients).Fits (books_seen books) → IsSnapshot counts server octets
 is_snapshot counts server books octets are spelled fit = record {
   books = books_seen books;
@@ -84,9 +83,9 @@ front_size first second front whole short_first short_second one two =
     let none : length (frames []) ≡ 0 = refl in
     omega (arith, one, two, none, size_more [] first short_first, size_more (first ∷ []) second short_second)
 
-front_generation : (counts : Counts) (header : Header) (begun : List BooksSeen) (first second : List ℕ) (whole : ℕ) → IsFront counts header begun first second whole
-    → IsGeneration counts header begun [] (first ∷ second ∷ [])
-front_generation counts header begun first second whole front = record {
+front_generation : (counts : Counts) (table : List ℕ) (header : Header) (begun : ServerSeen) (first second : List ℕ) (whole : ℕ) → IsFront counts table header begun first second whole
+    → IsGeneration counts table header begun [] (first ∷ second ∷ [])
+front_generation counts table header begun first second whole front = record {
   header_fits = front.header_fits;
   snapshot = second;
   snapshot_is = front.snapshot_is;
@@ -95,34 +94,34 @@ front_generation counts header begun first second whole front = record {
   payloads_are = ap (λ (f : List ℕ). f ∷ second ∷ []) front.header_is;
 }
 
-pub begun : (counts : Counts) (header : Header) (books : List BooksSeen) (first second : List ℕ) (whole : ℕ) (seen : List ℕ) (may_leave : Ending → List ℕ → Type 0)
-    → IsFront counts header books first second whole → IsSettled seen may_leave (first ∷ second ∷ []) → IsBegun counts header books seen may_leave whole
-begun counts header books first second whole seen may_leave front settled = record {
+pub begun : (counts : Counts) (table : List ℕ) (header : Header) (books : ServerSeen) (first second : List ℕ) (whole : ℕ) (seen : List ℕ) (may_leave : Ending → List ℕ → Type 0)
+    → IsFront counts table header books first second whole → IsSettled seen may_leave (first ∷ second ∷ []) → IsBegun counts table header books seen may_leave whole
+begun counts table header books first second whole seen may_leave front settled = record {
   payloads = first ∷ second ∷ [];
-  generation = front_generation counts header books first second whole front;
+  generation = front_generation counts table header books first second whole front;
   settled = settled;
   size = front.size;
 }
 
 -- what a crash leaves as a generation begins
-pub begun_or_not : (counts : Counts) (header : Header) (books : List BooksSeen) (first second : List ℕ) (whole : ℕ) (left : List ℕ) → IsFront counts header books first second whole
-    → HasAtMostOne first left ⊎ HasPayloads left (first ∷ second ∷ []) → IsUnbegun left ⊎ HasGeneration counts header books [] left
-begun_or_not counts header books first second whole left front (inl (inl none)) = inl (record { payloads = []; has = none; few = omega arith })
-begun_or_not counts header books first second whole left front (inl (inr one)) = inl (record { payloads = first ∷ []; has = one; few = omega arith })
-begun_or_not counts header books first second whole left front (inr both) =
-    inr (record { payloads = first ∷ second ∷ []; has = both; generation = front_generation counts header books first second whole front })
+pub begun_or_not : (counts : Counts) (table : List ℕ) (header : Header) (books : ServerSeen) (first second : List ℕ) (whole : ℕ) (left : List ℕ) → IsFront counts table header books first second whole
+    → HasAtMostOne first left ⊎ HasPayloads left (first ∷ second ∷ []) → IsUnbegun left ⊎ HasGeneration counts table header books [] left
+begun_or_not counts table header books first second whole left front (inl (inl none)) = inl (record { payloads = []; has = none; few = omega arith })
+begun_or_not counts table header books first second whole left front (inl (inr one)) = inl (record { payloads = first ∷ []; has = one; few = omega arith })
+begun_or_not counts table header books first second whole left front (inr both) =
+    inr (record { payloads = first ∷ second ∷ []; has = both; generation = front_generation counts table header books first second whole front })
 
 -- the same of octets that are those of the front
-pub front_or_not : (counts : Counts) (header : Header) (books : List BooksSeen) (first second one two : List ℕ) (whole : ℕ) (left : List ℕ) → one ≡ first → two ≡ second → IsFront counts header books first second whole
-    → HasAtMostOne one left ⊎ HasPayloads left (one ∷ two ∷ []) → IsUnbegun left ⊎ HasGeneration counts header books [] left
-front_or_not counts header books first second one two whole left same other front ways =
-    begun_or_not counts header books first second whole left front
+pub front_or_not : (counts : Counts) (table : List ℕ) (header : Header) (books : ServerSeen) (first second one two : List ℕ) (whole : ℕ) (left : List ℕ) → one ≡ first → two ≡ second → IsFront counts table header books first second whole
+    → HasAtMostOne one left ⊎ HasPayloads left (one ∷ two ∷ []) → IsUnbegun left ⊎ HasGeneration counts table header books [] left
+front_or_not counts table header books first second one two whole left same other front ways =
+    begun_or_not counts table header books first second whole left front
     (subst (λ (f : List ℕ). HasAtMostOne f left ⊎ HasPayloads left (f ∷ second ∷ [])) same (subst (λ (f : List ℕ). HasAtMostOne one left ⊎ HasPayloads left (one ∷ f ∷ [])) other ways))
 
-pub front_begun : (counts : Counts) (header : Header) (books : List BooksSeen) (first second one two : List ℕ) (whole : ℕ) (seen : List ℕ) (may_leave : Ending → List ℕ → Type 0) → one ≡ first → two ≡ second
-    → IsFront counts header books first second whole → IsSettled seen may_leave (one ∷ two ∷ []) → IsBegun counts header books seen may_leave whole
-front_begun counts header books first second one two whole seen may_leave same other front settled =
-    begun counts header books first second whole seen may_leave front
+pub front_begun : (counts : Counts) (table : List ℕ) (header : Header) (books : ServerSeen) (first second one two : List ℕ) (whole : ℕ) (seen : List ℕ) (may_leave : Ending → List ℕ → Type 0) → one ≡ first → two ≡ second
+    → IsFront counts table header books first second whole → IsSettled seen may_leave (one ∷ two ∷ []) → IsBegun counts table header books seen may_leave whole
+front_begun counts table header books first second one two whole seen may_leave same other front settled =
+    begun counts table header books first second whole seen may_leave front
     (subst (λ (f : List ℕ). IsSettled seen may_leave (f ∷ second ∷ [])) same (subst (λ (f : List ℕ). IsSettled seen may_leave (one ∷ f ∷ [])) other settled))
 
 -- what a crash leaves as the second of two payloads is recorded
@@ -150,30 +149,31 @@ no_moves_fit counts = (omega arith, All-nil (move_field counts).Fits)
 
 -- ---- the history of a generation that begins
 
-begun_history : (config : Configuration) (opening : List BooksSeen) (header : Header) (books : List BooksSeen) (history : List Move) (payloads : List (List ℕ)) → IsServerOf config opening → books ≡ replay opening history
-    → IsGeneration (counts_of config) header books [] payloads → AreOfHistory config opening history payloads
+begun_history : (config : Configuration) (opening : ServerSeen) (header : Header) (books : ServerSeen) (history : List Move) (payloads : List (List ℕ)) → IsServerOf config opening → books ≡ replay opening history
+    → IsGeneration (counts_of config) (octets_of config) header books [] payloads → AreOfHistory config opening history payloads
 begun_history config opening header books history payloads of are generation = record {
   opening_is = of;
   header = header;
   earlier = history;
   moves = [];
   are = sym (append-nil history);
-  generation = subst (λ (b : List BooksSeen). IsGeneration (counts_of config) header b [] payloads) are generation;
+  generation = subst (λ (b : ServerSeen). IsGeneration (counts_of config) (octets_of config) header b [] payloads) are generation;
 }
 
-pub begun_of : (config : Configuration) (opening : List BooksSeen) (header : Header) (books : List BooksSeen) (history : List Move) (left : List ℕ) → IsServerOf config opening → books ≡ replay opening history
-    → IsUnbegun left ⊎ HasGeneration (counts_of config) header books [] left → IsUnbegun left ⊎ HasHistory config opening history left
+pub begun_of : (config : Configuration) (opening : ServerSeen) (header : Header) (books : ServerSeen) (history : List Move) (left : List ℕ) → IsServerOf config opening → books ≡ replay opening history
+    → IsUnbegun left ⊎ HasGeneration (counts_of config) (octets_of config) header books [] left → IsUnbegun left ⊎ HasHistory config opening history left
 begun_of config opening header books history left of are (inl none) = inl none
 begun_of config opening header books history left of are (inr has) =
     inr (record { payloads = has.payloads; has = has.has; are = begun_history config opening header books history has.payloads of are has.generation })
 
-pub begun_stands : (config : Configuration) (opening : List BooksSeen) (counts : Counts) (tears : List ℕ → List ℕ → Type 0) (header : Header) (seen : List ℕ) (may_leave : Ending → List ℕ → Type 0) (whole : ℕ) (books : List BooksSeen) (history : List Move)
-    → IsServerOf config opening → counts ≡ counts_of config → IsBegun counts header books seen may_leave whole → books ≡ replay opening history
-    → StandsFor config opening counts tears Settled seen may_leave whole books history []
-begun_stands config opening counts tears header seen may_leave whole books history of counted so are = record {
+pub begun_stands : (config : Configuration) (opening : ServerSeen) (counts : Counts) (table : List ℕ) (tears : List ℕ → List ℕ → Type 0) (header : Header) (seen : List ℕ) (may_leave : Ending → List ℕ → Type 0) (whole : ℕ) (books : ServerSeen) (history : List Move)
+    → IsServerOf config opening → counts ≡ counts_of config → table ≡ octets_of config → IsBegun counts table header books seen may_leave whole → books ≡ replay opening history
+    → StandsFor config opening counts table tears Settled seen may_leave whole books history []
+begun_stands config opening counts table tears header seen may_leave whole books history of counted tabled so are = record {
   counts_are = counted;
+  table_is = tabled;
   payloads = so.payloads;
-  are = begun_history config opening header books history so.payloads of are (subst (λ (c : Counts). IsGeneration c header books [] so.payloads) counted so.generation);
+  are = begun_history config opening header books history so.payloads of are (subst (λ (t : List ℕ). IsGeneration (counts_of config) t header books [] so.payloads) tabled (subst (λ (c : Counts). IsGeneration c table header books [] so.payloads) counted so.generation));
   unanswered_fits = no_moves_fit counts;
   size = so.size;
   ends = so.settled;
@@ -181,7 +181,7 @@ begun_stands config opening counts tears header seen may_leave whole books histo
 }
 
 -- two logs as the newer begins
-pub both_stand : (config : Configuration) (opening : List BooksSeen) (history unanswered : List Move) (older newer : List ℕ) → HasHistoryOr config opening history unanswered older → IsUnbegun newer ⊎ HasHistory config opening history newer
+pub both_stand : (config : Configuration) (opening : ServerSeen) (history unanswered : List Move) (older newer : List ℕ) → HasHistoryOr config opening history unanswered older → IsUnbegun newer ⊎ HasHistory config opening history newer
     → StandForHistory config opening history unanswered older newer
 both_stand config opening history unanswered older newer has (inl none) = inr (none, has)
 both_stand config opening history unanswered older newer has (inr new) = inl new

@@ -1,9 +1,8 @@
 -- What the opening of a log leaves of it.
 use Rattle.std.proofs.Common.{◌≡◌, inl, inr, ℕ, List, [], ◌∷◌, ◌++◌, length, sym, ap, subst, ◌∙◌, arith}
 use Rattle.rsl_accounts.specs.Configuration.{Configuration}
-use Rattle.rsl_shard.specs.Restep.{BooksSeen}
 use Rattle.rsl_shard.specs.declared.moved.Move.{Move}
-use Rattle.rld_books.specs.Server.{replay}
+use Rattle.rld_books.specs.Server.{ServerSeen, replay}
 use Rattle.rld_log.specs.Frames.{EndsAt, HasPayloads, frames}
 use Rattle.rld_log.specs.Log.{Extends, Only}
 use Rattle.rld_log.specs.Recording.{IsBeforeOrAfter, IsSettled, LeavesEither}
@@ -11,7 +10,7 @@ use Rattle.rld_log.specs.declared.log.Ending.{Ending}
 use Rattle.rld_log.proofs.Callers.{ends_so, have_one_reading}
 use Rattle.rld_spelling.specs.declared.header.Header.{Header}
 use Rattle.rld_spelling.specs.declared.moves.Counts.{Counts}
-use Rattle.rld_store.specs.Generations.{HasHistory, counts_of}
+use Rattle.rld_store.specs.Generations.{HasHistory, counts_of, octets_of}
 use Rattle.rld_store.specs.Opening.{IsFoundIn}
 use Rattle.rld_store.specs.Standing.{StandsFor}
 use Rattle.rld_store.specs.declared.store.End.TheVariants.{Settled}
@@ -50,11 +49,12 @@ ends_whole file octets len before is ends has = ends_so file len (subst (λ (f :
 
 -- ---- the history of a log that was opened
 
-pub opened_stands : (config : Configuration) (opening : List BooksSeen) (counts : Counts) (tears : List ℕ → List ℕ → Type 0) (file seen : List ℕ) (may_leave : Ending → List ℕ → Type 0) (whole : ℕ) (header : Header) (books : List BooksSeen) (count : ℕ) (history : List Move)
-    → counts ≡ counts_of config → (has : HasHistory config opening history file) → IsFoundIn config has.payloads header books count → whole ≡ length (frames has.payloads) → IsSettled seen may_leave has.payloads
-    → StandsFor config opening counts tears Settled seen may_leave whole books history []
-opened_stands config opening counts tears file seen may_leave whole header books count history counted has found size settled = record {
+pub opened_stands : (config : Configuration) (opening : ServerSeen) (counts : Counts) (table : List ℕ) (tears : List ℕ → List ℕ → Type 0) (file seen : List ℕ) (may_leave : Ending → List ℕ → Type 0) (whole : ℕ) (header : Header) (books : ServerSeen) (count : ℕ) (history : List Move)
+    → counts ≡ counts_of config → table ≡ octets_of config → (has : HasHistory config opening history file) → IsFoundIn config has.payloads header books count → whole ≡ length (frames has.payloads) → IsSettled seen may_leave has.payloads
+    → StandsFor config opening counts table tears Settled seen may_leave whole books history []
+opened_stands config opening counts table tears file seen may_leave whole header books count history counted tabled has found size settled = record {
   counts_are = counted;
+  table_is = tabled;
   payloads = has.payloads;
   are = has.are;
   unanswered_fits = no_moves_fit counts;
@@ -64,11 +64,11 @@ opened_stands config opening counts tears file seen may_leave whole header books
       ∙ sym (made_of_begun config opening history has.payloads has.are);
 }
 
-pub opened_found : (config : Configuration) (opening : List BooksSeen) (file : List ℕ) (header : Header) (books : List BooksSeen) (count : ℕ) (history : List Move)
+pub opened_found : (config : Configuration) (opening : ServerSeen) (file : List ℕ) (header : Header) (books : ServerSeen) (count : ℕ) (history : List Move)
     → (has : HasHistory config opening history file) → IsFoundIn config has.payloads header books count → (header ≡ has.are.header) × (count ≡ length has.are.moves)
 opened_found config opening file header books count history has found =
     let is = found has.are.header (replay opening has.are.earlier) has.are.moves (begun_is_of config opening has.are.earlier has.are.opening_is) has.are.generation in
     (is.header_is, is.count_is)
 
-pub still_history : (config : Configuration) (opening : List BooksSeen) (history : List Move) (file left : List ℕ) → (has : HasHistory config opening history file) → HasPayloads left has.payloads → HasHistory config opening history left
+pub still_history : (config : Configuration) (opening : ServerSeen) (history : List Move) (file left : List ℕ) → (has : HasHistory config opening history file) → HasPayloads left has.payloads → HasHistory config opening history left
 still_history config opening history file left has there = record { payloads = has.payloads; has = there; are = has.are }

@@ -6,17 +6,16 @@ use Rattle.std.specs.Option.{option_map}
 use Rattle.std.proofs.lemmas.List.{drop_more, get_or_default, nil_from_length, take-append-drop, take_more}
 use Rattle.std.proofs.lemmas.Option.{get_or_from_slice_get, slice_get-map, slice_get_read, slice_get_within}
 use Rattle.rsl_accounts.specs.Configuration.{Configuration}
-use Rattle.rsl_shard.specs.Restep.{BooksSeen}
 use Rattle.rsl_shard.specs.declared.moved.Move.{Move}
 use Rattle.rld_books.specs.Saved.{IsServerOf}
-use Rattle.rld_books.specs.Server.{replay, server_after}
+use Rattle.rld_books.specs.Server.{ServerSeen, replay, server_after}
 use Rattle.rld_log.specs.Frames.{Fits, frames}
-use Rattle.rld_spelling.specs.Headers.{header_at, header_field, header_octets}
+use Rattle.rld_spelling.specs.Headers.{header_at, header_field}
 use Rattle.rld_spelling.specs.Moves.{moves_field}
 use Rattle.rld_spelling.specs.declared.header.Header.{Header}
 use Rattle.rld_spelling.specs.declared.moves.Counts.{Counts}
-use Rattle.rld_store.specs.Generations.{AreBatches, IsSnapshot, counts_of, moves_in}
-use Rattle.rld_store.specs.Opening.{AreParts, AreReplayed, IsAt, IsBatchAt, IsFirstFault, IsFoundIn, IsMalformed, IsThere, IsWhyNoBooks, IsWhyNoMoves, IsWhyNoParts, IsWhyUnread}
+use Rattle.rld_store.specs.Generations.{AreBatches, IsSnapshot, counts_of, front_octets, moves_in, octets_of}
+use Rattle.rld_store.specs.Opening.{AreParts, AreReplayed, IsAt, IsBatchAt, IsFrontFault, IsFoundIn, IsMalformed, IsThere, IsWhyNoBooks, IsWhyNoMoves, IsWhyNoParts, IsWhyOther, IsWhyUnread}
 use Rattle.rld_store.specs.declared.fault.Malformed.{Malformed}
 use Rattle.rld_store.specs.declared.fault.StoreFault.{StoreFault}
 use Rattle.rld_store.specs.declared.fault.StoreFault.TheVariants as faults
@@ -26,28 +25,28 @@ use Rattle.rld_store.proofs.Fronts.{front_size}
 
 -- ---- one batch
 
-pub step_left : (now next all : List BooksSeen) (left rest : List Move) (moved : Move) → replay now left ≡ all → left ≡ moved ∷ rest → next ≡ server_after now moved → replay next rest ≡ all
-step_left now next all left rest moved so is stepped = ap (λ (b : List BooksSeen). replay b rest) stepped ∙ replay_first now moved rest ∙ ap (replay now) (sym is) ∙ so
+pub step_left : (now next all : ServerSeen) (left rest : List Move) (moved : Move) → replay now left ≡ all → left ≡ moved ∷ rest → next ≡ server_after now moved → replay next rest ≡ all
+step_left now next all left rest moved so is stepped = ap (λ (b : ServerSeen). replay b rest) stepped ∙ replay_first now moved rest ∙ ap (replay now) (sym is) ∙ so
 
-pub none_left : (now all : List BooksSeen) (left : List Move) → replay now left ≡ all → length left ≡ 0 → now ≡ all
+pub none_left : (now all : ServerSeen) (left : List Move) → replay now left ≡ all → length left ≡ 0 → now ≡ all
 none_left now all left so none = sym (ap (replay now) (nil_from_length left none) ∙ replay_none now) ∙ so
 
 -- ---- batch by batch
 
 -- so far these books were made, and these payloads are left
-pub record IsOn (counts : Counts) (begun : List BooksSeen) (moves : List Move) (left : List (List ℕ)) (books : List BooksSeen) (count : ℕ) : Type 0 where
+pub record IsOn (counts : Counts) (begun : ServerSeen) (moves : List Move) (left : List (List ℕ)) (books : ServerSeen) (count : ℕ) : Type 0 where
   pub rest : List Move
   pub rest_are : AreBatches counts rest left
   pub books_so : replay books rest ≡ replay begun moves
   pub count_so : count + length rest ≡ length moves
 
-abbrev pub HasReplayed : Counts → (begun : List BooksSeen) → (payloads left : List (List ℕ)) → (books : List BooksSeen) → (count : ℕ) → Type 0
+abbrev pub HasReplayed : Counts → (begun : ServerSeen) → (payloads left : List (List ℕ)) → (books : ServerSeen) → (count : ℕ) → Type 0
 HasReplayed counts begun payloads left books count = (moves : List Move) → AreBatches counts moves payloads → IsOn counts begun moves left books count
 
-pub replayed_none : (counts : Counts) (begun : List BooksSeen) (payloads : List (List ℕ)) → HasReplayed counts begun payloads payloads begun 0
+pub replayed_none : (counts : Counts) (begun : ServerSeen) (payloads : List (List ℕ)) → HasReplayed counts begun payloads payloads begun 0
 replayed_none counts begun payloads moves so = record { rest = moves; rest_are = so; books_so = refl; count_so = omega arith }
 
-pub replayed_more : (counts : Counts) (begun : List BooksSeen) (payloads left rest : List (List ℕ)) (books next : List BooksSeen) (count more : ℕ) (payload : List ℕ) (read : List Move)
+pub replayed_more : (counts : Counts) (begun : ServerSeen) (payloads left rest : List (List ℕ)) (books next : ServerSeen) (count more : ℕ) (payload : List ℕ) (read : List Move)
     → HasReplayed counts begun payloads left books count → left ≡ payload ∷ rest
     → ((batch : List Move) → (moves_field counts).Fits batch → payload ≡ (moves_field counts).spell batch → read ≡ batch) → next ≡ replay books read → more ≡ count + length read
     → HasReplayed counts begun payloads rest next more
@@ -64,7 +63,7 @@ replayed_more counts begun payloads left rest books next count more payload read
         record {
           rest = moves_in batches;
           rest_are = record { batches = batches; are = refl; fit = fit.1; spelled = others };
-          books_so = ap (λ (b : List BooksSeen). replay b (moves_in batches)) (made ∙ ap (replay books) same) ∙ sym (replay_more books batch (moves_in batches))
+          books_so = ap (λ (b : ServerSeen). replay b (moves_in batches)) (made ∙ ap (replay books) same) ∙ sym (replay_more books batch (moves_in batches))
               ∙ ap (replay books) (sym are) ∙ (so moves of).books_so;
           count_so = omega (arith, counted, (so moves of).count_so, ap length same, ap length are, length-append batch (moves_in batches));
         }
@@ -77,12 +76,12 @@ none_are counts rest left none so = so.are ∙ by so.batches (sym none ∙ so.sp
     by [] e = refl
     by (batch ∷ batches) e = absurd (cc e)
 
-pub replayed_books : (counts : Counts) (begun : List BooksSeen) (payloads left : List (List ℕ)) (books : List BooksSeen) (count : ℕ)
+pub replayed_books : (counts : Counts) (begun : ServerSeen) (payloads left : List (List ℕ)) (books : ServerSeen) (count : ℕ)
     → HasReplayed counts begun payloads left books count → left ≡ [] → (moves : List Move) → AreBatches counts moves payloads → books ≡ replay begun moves
 replayed_books counts begun payloads left books count so none moves of =
     sym (ap (replay books) (none_are counts (so moves of).rest left none (so moves of).rest_are) ∙ replay_none books) ∙ (so moves of).books_so
 
-pub replayed_count : (counts : Counts) (begun : List BooksSeen) (payloads left : List (List ℕ)) (books : List BooksSeen) (count : ℕ)
+pub replayed_count : (counts : Counts) (begun : ServerSeen) (payloads left : List (List ℕ)) (books : ServerSeen) (count : ℕ)
     → HasReplayed counts begun payloads left books count → left ≡ [] → (moves : List Move) → AreBatches counts moves payloads → count ≡ length moves
 replayed_count counts begun payloads left books count so none moves of =
     let nothing : length {A = Move} [] ≡ 0 = refl in
@@ -105,7 +104,7 @@ take_next payloads at payload is =
     take_more payloads at payload (slice_get_within payloads at payload is)
     ∙ ap (λ (p : List ℕ). take at payloads ++ p ∷ []) (get_or_from_slice_get payloads at payload payload is)
 
-pub none_spelled : (counts : Counts) (begun : List BooksSeen) → AreReplayed counts [] begun begun 0
+pub none_spelled : (counts : Counts) (begun : ServerSeen) → AreReplayed counts [] begun begun 0
 none_spelled counts begun = record {
   moves = [];
   batches = record { batches = []; are = refl; fit = tt; spelled = refl };
@@ -113,7 +112,7 @@ none_spelled counts begun = record {
   count_is = refl;
 }
 
-pub spelled_more : (counts : Counts) (begun : List BooksSeen) (payloads : List (List ℕ)) (at : ℕ) (books next : List BooksSeen) (count more : ℕ) (payload : List ℕ) (read : List Move)
+pub spelled_more : (counts : Counts) (begun : ServerSeen) (payloads : List (List ℕ)) (at : ℕ) (books next : ServerSeen) (count more : ℕ) (payload : List ℕ) (read : List Move)
     → slice_get payloads at ≡ Some payload → AreReplayed counts (take at payloads) begun books count
     → payload ≡ (moves_field counts).spell read → (moves_field counts).Fits read → next ≡ replay books read → more ≡ count + length read
     → AreReplayed counts (take (at + 1) payloads) begun next more
@@ -121,7 +120,7 @@ spelled_more counts begun payloads at books next count more payload read there s
   moves = so.moves ++ read;
   batches = subst (λ (l : List (List ℕ)). AreBatches counts (so.moves ++ read) l) (sym (take_next payloads at payload there))
       (batches_more counts so.moves read (take at payloads) payload so.batches fit spelled);
-  books_are = made ∙ ap (λ (b : List BooksSeen). replay b read) so.books_are ∙ sym (replay_more begun so.moves read);
+  books_are = made ∙ ap (λ (b : ServerSeen). replay b read) so.books_are ∙ sym (replay_more begun so.moves read);
   count_is = omega (arith, counted, so.count_is, length-append so.moves read);
 }
 
@@ -152,27 +151,27 @@ is_at before payloads at payload whole end is fits so ends = record {
 
 -- ---- a whole generation
 
-pub found_in : (config : Configuration) (payloads batches : List (List ℕ)) (first second : List ℕ) (found : Header) (begun_books books : List BooksSeen) (count : ℕ)
+pub found_in : (config : Configuration) (payloads batches : List (List ℕ)) (first second : List ℕ) (found : Header) (begun_books books : ServerSeen) (count : ℕ)
     → payloads ≡ first ∷ second ∷ batches
-    → ((header : Header) → header_field.Fits header → first ≡ header_octets header → found ≡ header)
-    → ((begun : List BooksSeen) → IsServerOf config begun → IsSnapshot (counts_of config) begun second → begun_books ≡ begun)
+    → ((header : Header) (table : List ℕ) → header_field.Fits header → first ≡ front_octets header table → found ≡ header)
+    → ((begun : ServerSeen) → IsServerOf config begun → IsSnapshot (counts_of config) begun second → begun_books ≡ begun)
     → ((moves : List Move) → AreBatches (counts_of config) moves batches → books ≡ replay begun_books moves)
     → ((moves : List Move) → AreBatches (counts_of config) moves batches → count ≡ length moves)
     → IsFoundIn config payloads found books count
 found_in config payloads batches first second found begun_books books count parts head snapshot replayed counted header begun moves is of =
-    let same : first ∷ second ∷ batches ≡ header_octets header ∷ of.snapshot ∷ of.batches = sym parts ∙ of.payloads_are in
-    let one : first ≡ header_octets header = cc same in
+    let same : first ∷ second ∷ batches ≡ front_octets header (octets_of config) ∷ of.snapshot ∷ of.batches = sym parts ∙ of.payloads_are in
+    let one : first ≡ front_octets header (octets_of config) = cc same in
     let two : second ≡ of.snapshot = cc same in
     let rest : batches ≡ of.batches = cc same in
     let have : AreBatches (counts_of config) moves batches = subst (λ (l : List (List ℕ)). AreBatches (counts_of config) moves l) (sym rest) of.batches_are in
     record {
-      header_is = head header of.header_fits one;
-      books_are = replayed moves have ∙ ap (λ (b : List BooksSeen). replay b moves) (snapshot begun is (subst (λ (o : List ℕ). IsSnapshot (counts_of config) begun o) (sym two) of.snapshot_is));
+      header_is = head header (octets_of config) of.header_fits one;
+      books_are = replayed moves have ∙ ap (λ (b : ServerSeen). replay b moves) (snapshot begun is (subst (λ (o : List ℕ). IsSnapshot (counts_of config) begun o) (sym two) of.snapshot_is));
       count_is = counted moves have;
     }
 
-pub is_there : (config : Configuration) (payloads batches : List (List ℕ)) (first second : List ℕ) (header : Header) (begun books : List BooksSeen) (count : ℕ)
-    → payloads ≡ first ∷ second ∷ batches → first ≡ header_octets header → header_field.Fits header → IsServerOf config begun → IsSnapshot (counts_of config) begun second
+pub is_there : (config : Configuration) (payloads batches : List (List ℕ)) (first second : List ℕ) (header : Header) (begun books : ServerSeen) (count : ℕ)
+    → payloads ≡ first ∷ second ∷ batches → first ≡ front_octets header (octets_of config) → header_field.Fits header → IsServerOf config begun → IsSnapshot (counts_of config) begun second
     → AreReplayed (counts_of config) batches begun books count → IsThere config payloads header books count
 is_there config payloads batches first second header begun books count parts head fits is snapshot so = record {
   begun = begun;
@@ -191,22 +190,22 @@ is_there config payloads batches first second header begun books count parts hea
 }
 
 pub parts_are : (payloads : List (List ℕ)) (header snapshot : List ℕ) (parts : Parts) → payloads ≡ header ∷ snapshot ∷ map (λ (payload : Bor (List ℕ)). payload.now) parts.batches.now
-    → parts.header.payload.now ≡ header → parts.snapshot.payload.now ≡ snapshot → Fits parts.header.payload.now → Fits parts.snapshot.payload.now
-    → parts.header.end ≡ 0 + (20 + length parts.header.payload.now) → parts.snapshot.end ≡ parts.header.end + (20 + length parts.snapshot.payload.now) → AreParts payloads parts
+    → parts.front.payload.now ≡ header → parts.snapshot.payload.now ≡ snapshot → Fits parts.front.payload.now → Fits parts.snapshot.payload.now
+    → parts.front.end ≡ 0 + (20 + length parts.front.payload.now) → parts.snapshot.end ≡ parts.front.end + (20 + length parts.snapshot.payload.now) → AreParts payloads parts
 parts_are payloads header snapshot parts is one two short_header short_snapshot front whole =
     let none : length (frames []) ≡ 0 = refl in
     let batches : List (List ℕ) = map (λ (payload : Bor (List ℕ)). payload.now) parts.batches.now in
     record {
-      are = is ∙ ap (λ (o : List ℕ). o ∷ snapshot ∷ batches) (sym one) ∙ ap (λ (o : List ℕ). parts.header.payload.now ∷ o ∷ batches) (sym two);
-      header_end = omega (arith, none, front, size_more [] parts.header.payload.now short_header);
-      snapshot_end = front_size parts.header.payload.now parts.snapshot.payload.now parts.header.end parts.snapshot.end short_header short_snapshot front whole;
+      are = is ∙ ap (λ (o : List ℕ). o ∷ snapshot ∷ batches) (sym one) ∙ ap (λ (o : List ℕ). parts.front.payload.now ∷ o ∷ batches) (sym two);
+      front_end = omega (arith, none, front, size_more [] parts.front.payload.now short_header);
+      snapshot_end = front_size parts.front.payload.now parts.snapshot.payload.now parts.front.end parts.snapshot.end short_header short_snapshot front whole;
     }
 
 -- ---- why a generation was not read
 
-module _ (counts : Counts) (header snapshot : List ℕ) (payloads : List (List ℕ)) (at : ℕ) (payload : List ℕ) (whole end : ℕ) where
+module _ (counts : Counts) (table header snapshot : List ℕ) (payloads : List (List ℕ)) (at : ℕ) (payload : List ℕ) (whole end : ℕ) where
   pub moves_why : (fault : StoreFault) → slice_get payloads at ≡ Some payload → Fits payload → whole ≡ length (frames (header ∷ snapshot ∷ take at payloads)) → end ≡ whole + (20 + length payload)
-      → IsWhyNoMoves counts end payload fault → IsWhyUnread counts (header ∷ snapshot ∷ payloads) fault
+      → IsWhyNoMoves counts end payload fault → IsWhyUnread counts table (header ∷ snapshot ∷ payloads) fault
   moves_why (faults.Malformed malformed) is fits so ends why = record {
     before = header ∷ snapshot ∷ take at payloads;
     payload = payload;
@@ -218,42 +217,56 @@ module _ (counts : Counts) (header snapshot : List ℕ) (payloads : List (List �
   moves_why _ is fits so ends why = absurd why
 
   pub foreign_why : (offset : ℕ) (fault : StoreFault) → slice_get payloads at ≡ Some payload → Fits payload → whole ≡ length (frames (header ∷ snapshot ∷ take at payloads)) → end ≡ whole + (20 + length payload)
-      → offset ≡ end - length payload → fault ≡ faults.Foreign offset → IsWhyUnread counts (header ∷ snapshot ∷ payloads) fault
+      → offset ≡ end - length payload → fault ≡ faults.Foreign offset → IsWhyUnread counts table (header ∷ snapshot ∷ payloads) fault
   foreign_why offset fault is fits so ends begins same =
       let foreign : IsBatchAt (header ∷ snapshot ∷ payloads) offset = record {
         before = header ∷ snapshot ∷ take at payloads;
         later = omega arith;
         begins = record { payload = payload; end = end; at = is_at (header ∷ snapshot ∷ []) payloads at payload whole end is fits so ends; offset_is = begins };
       } in
-      subst (IsWhyUnread counts (header ∷ snapshot ∷ payloads)) (sym same) foreign
+      subst (IsWhyUnread counts table (header ∷ snapshot ∷ payloads)) (sym same) foreign
 
-pub parts_why : (counts : Counts) (payloads : List (List ℕ)) (fault : StoreFault) → IsWhyNoParts payloads fault → IsWhyUnread counts payloads fault
-parts_why counts payloads faults.Unbegun why = why
-parts_why counts payloads faults.TooLong why = tt
-parts_why counts payloads _ why = absurd why
+pub parts_why : (counts : Counts) (table : List ℕ) (payloads : List (List ℕ)) (fault : StoreFault) → IsWhyNoParts payloads fault → IsWhyUnread counts table payloads fault
+parts_why counts table payloads faults.Unbegun why = why
+parts_why counts table payloads faults.TooLong why = tt
+parts_why counts table payloads _ why = absurd why
 
-module _ (counts : Counts) (payloads : List (List ℕ)) (parts : Parts) (are : AreParts payloads parts) where
-  pub header_why : (malformed : Malformed) → IsFirstFault header_at parts.header.end parts.header.payload.now malformed → IsMalformed counts payloads malformed
+module _ (counts : Counts) (table : List ℕ) (payloads : List (List ℕ)) (parts : Parts) (are : AreParts payloads parts) where
+  pub header_why : (malformed : Malformed) → IsFrontFault header_at parts.front.end parts.front.payload.now malformed → IsMalformed counts payloads malformed
   header_why malformed why = record {
     before = [];
-    payload = parts.header.payload.now;
-    end = parts.header.end;
-    at = record { rest = parts.snapshot.payload.now ∷ map (λ (payload : Bor (List ℕ)). payload.now) parts.batches.now; there = are.are; end_is = are.header_end };
+    payload = parts.front.payload.now;
+    end = parts.front.end;
+    at = record { rest = parts.snapshot.payload.now ∷ map (λ (payload : Bor (List ℕ)). payload.now) parts.batches.now; there = are.are; end_is = are.front_end };
     spells_nothing = why;
   }
 
-  snapshot_at : IsAt payloads (parts.header.payload.now ∷ []) parts.snapshot.payload.now parts.snapshot.end
+  -- the table of another configuration
+  pub table_why : (header : Header) (found : List ℕ) (end : ℕ) (fault : StoreFault) → parts.front.payload.now ≡ front_octets header found → end ≡ parts.front.end → IsWhyOther table end found fault
+      → IsWhyUnread counts table payloads fault
+  table_why header found end (faults.OtherTable offset) spelled ends why = record {
+    header = header;
+    found = found;
+    rest = parts.snapshot.payload.now ∷ map (λ (payload : Bor (List ℕ)). payload.now) parts.batches.now;
+    there = are.are ∙ ap (λ (o : List ℕ). o ∷ parts.snapshot.payload.now ∷ map (λ (payload : Bor (List ℕ)). payload.now) parts.batches.now) spelled;
+    other = why.0;
+    offset_is = why.1 ∙ ap (λ (n : ℕ). n - length found) (ends ∙ are.front_end ∙ ap (λ (o : List ℕ). length (frames (o ∷ []))) spelled);
+  }
+  table_why header found end faults.NoMemory spelled ends why = tt
+  table_why header found end _ spelled ends why = absurd why
+
+  snapshot_at : IsAt payloads (parts.front.payload.now ∷ []) parts.snapshot.payload.now parts.snapshot.end
   snapshot_at = record { rest = map (λ (payload : Bor (List ℕ)). payload.now) parts.batches.now; there = are.are; end_is = are.snapshot_end }
 
-  pub books_why : (fault : StoreFault) → IsWhyNoBooks counts.clients parts.snapshot.end parts.snapshot.payload.now fault → IsWhyUnread counts payloads fault
+  pub books_why : (fault : StoreFault) → IsWhyNoBooks counts.clients parts.snapshot.end parts.snapshot.payload.now fault → IsWhyUnread counts table payloads fault
   books_why (faults.Malformed malformed) why = record {
-    before = parts.header.payload.now ∷ [];
+    before = parts.front.payload.now ∷ [];
     payload = parts.snapshot.payload.now;
     end = parts.snapshot.end;
     at = snapshot_at;
     spells_nothing = why;
   }
   books_why (faults.Misfit offset fault) why =
-      (parts.header.payload.now, record { payload = parts.snapshot.payload.now; end = parts.snapshot.end; at = snapshot_at; offset_is = why })
+      (parts.front.payload.now, record { payload = parts.snapshot.payload.now; end = parts.snapshot.end; at = snapshot_at; offset_is = why })
   books_why faults.NoMemory why = tt
   books_why _ why = absurd why

@@ -1,24 +1,34 @@
--- A generation of the log: a header, a snapshot of the books that it begins with, and the moves
--- that followed, batch by batch. Each of these is the payload of a frame.
+-- A generation of the log: its header with the table of its accounts and clients, a snapshot of the
+-- books that it begins with, and the moves that followed, batch by batch. Each of these is the payload
+-- of a frame.
 use Rattle.std.specs.Prelude.{◌≡◌, ◌⊎◌, ℕ, ◌<◌, List, ◌∷◌, ◌++◌, length, map}
 use Rattle.std.specs.List.{flat_map, AllByRecursion}
 use Rattle.rsl_accounts.specs.Configuration.{Configuration}
 use Rattle.rsl_session.specs.Saved.{saved_links}
 use Rattle.rsl_session.specs.Book.{Book}
-use Rattle.rsl_shard.specs.Restep.{BooksSeen}
 use Rattle.rsl_shard.specs.declared.moved.Move.{Move}
 use Rattle.rld_books.specs.Saved.{IsServerOf, saved_server}
-use Rattle.rld_books.specs.Server.{replay}
+use Rattle.rld_books.specs.Server.{ServerSeen, replay}
 use Rattle.rld_log.specs.Frames.{HasPayloads}
 use Rattle.rld_spelling.specs.Books.{BookSeen, books_field}
 use Rattle.rld_spelling.specs.Headers.{header_field, header_octets}
 use Rattle.rld_spelling.specs.Moves.{moves_field}
+use Rattle.rld_spelling.specs.TableSpelled.{table_octets}
+use Rattle.rld_spelling.specs.Tables.{table_of}
 use Rattle.rld_spelling.specs.declared.header.Header.{Header}
 use Rattle.rld_spelling.specs.declared.moves.Counts.{Counts}
 
 -- the numbers of accounts and clients
 abbrev pub counts_of : Configuration → Counts
 counts_of config = record { accounts = length config.accounts; clients = length config.clients }
+
+-- the octets of a configuration's table
+abbrev pub octets_of : Configuration → List ℕ
+octets_of config = table_octets (table_of config)
+
+-- the front of a generation: its header, and behind it the octets of a table
+abbrev pub front_octets : Header → (table : List ℕ) → List ℕ
+front_octets header table = header_octets header ++ table
 
 -- the running book that a book of a snapshot stands for
 abbrev pub running : BookSeen → Book
@@ -32,7 +42,7 @@ running book = record {
 }
 
 -- a snapshot of the books of a server, as octets
-pub record IsSnapshot (counts : Counts) (server : List BooksSeen) (octets : List ℕ) : Type 0 where
+pub record IsSnapshot (counts : Counts) (server : ServerSeen) (octets : List ℕ) : Type 0 where
   pub books : List BookSeen
   pub are : map running books ≡ saved_server server
   pub fit : (books_field counts.clients).Fits books
@@ -49,36 +59,38 @@ pub record AreBatches (counts : Counts) (moves : List Move) (payloads : List (Li
   pub fit : AllByRecursion (moves_field counts).Fits batches
   pub spelled : payloads ≡ map (moves_field counts).spell batches
 
--- the payloads of a generation that began with these books, with the moves that followed
-pub record IsGeneration (counts : Counts) (header : Header) (begun : List BooksSeen)
+-- the payloads of a generation with this table that began with these books, with the moves that
+-- followed
+pub record IsGeneration (counts : Counts) (table : List ℕ) (header : Header) (begun : ServerSeen)
     (moves : List Move) (payloads : List (List ℕ)) : Type 0 where
   pub header_fits : header_field.Fits header
   pub snapshot : List ℕ
   pub snapshot_is : IsSnapshot counts begun snapshot
   pub batches : List (List ℕ)
   pub batches_are : AreBatches counts moves batches
-  pub payloads_are : payloads ≡ header_octets header ∷ snapshot ∷ batches
+  pub payloads_are : payloads ≡ front_octets header table ∷ snapshot ∷ batches
 
--- The payloads of a generation of a history, of an era that opened with these books: the books that
--- it begins with are what the moves before it make of them. A first era opens with new books.
-pub record AreOfHistory (config : Configuration) (opening : List BooksSeen) (history : List Move)
+-- The payloads of a generation of a history that opened with these books of a configuration: the books
+-- that it begins with are what the moves before it make of them. The first history opens with new books.
+pub record AreOfHistory (config : Configuration) (opening : ServerSeen) (history : List Move)
     (payloads : List (List ℕ)) : Type 0 where
   pub opening_is : IsServerOf config opening
   pub header : Header
   pub earlier : List Move
   pub moves : List Move
   pub are : history ≡ earlier ++ moves
-  pub generation : IsGeneration (counts_of config) header (replay opening earlier) moves payloads
+  pub generation : IsGeneration (counts_of config) (octets_of config) header (replay opening earlier)
+      moves payloads
 
 -- a file of a generation
-pub record HasGeneration (counts : Counts) (header : Header) (begun : List BooksSeen)
+pub record HasGeneration (counts : Counts) (table : List ℕ) (header : Header) (begun : ServerSeen)
     (moves : List Move) (file : List ℕ) : Type 0 where
   pub payloads : List (List ℕ)
   pub has : HasPayloads file payloads
-  pub generation : IsGeneration counts header begun moves payloads
+  pub generation : IsGeneration counts table header begun moves payloads
 
 -- a file that stands for a history
-pub record HasHistory (config : Configuration) (opening : List BooksSeen) (history : List Move)
+pub record HasHistory (config : Configuration) (opening : ServerSeen) (history : List Move)
     (file : List ℕ) : Type 0 where
   pub payloads : List (List ℕ)
   pub has : HasPayloads file payloads
@@ -91,14 +103,14 @@ pub record IsUnbegun (file : List ℕ) : Type 0 where
   pub few : length payloads < 2
 
 -- a file that stands for a history, or for it and an unanswered batch, whole
-abbrev pub HasHistoryOr : (config : Configuration) → (opening : List BooksSeen)
+abbrev pub HasHistoryOr : (config : Configuration) → (opening : ServerSeen)
     → (history unanswered : List Move) → (file : List ℕ) → Type 0
 HasHistoryOr config opening history unanswered file =
     HasHistory config opening history file ⊎ HasHistory config opening (history ++ unanswered) file
 
 -- Two files of which the newer counts if its snapshot is whole, and else the older: they stand for
 -- a history, or for it and an unanswered batch.
-abbrev pub StandForHistory : (config : Configuration) → (opening : List BooksSeen)
+abbrev pub StandForHistory : (config : Configuration) → (opening : ServerSeen)
     → (history unanswered : List Move) → (older newer : List ℕ) → Type 0
 StandForHistory config opening history unanswered older newer =
     HasHistory config opening history newer

@@ -1,4 +1,5 @@
 pub mod Beginning
+pub mod Former
 pub mod Generations
 pub mod Laws
 pub mod Opening

@@ -12,6 +12,6 @@
 --
 -- Memory is not refused: if it is, a call says so, and nothing has changed.
 --
--- Within an era the accounts, clients and rules are fixed: one `config` is in all clauses of a
+-- Between two changes the accounts, clients and rules are fixed: one `config` is in all clauses of a
 -- history.
 pub use Rattle.rld_log.specs.Log.{Detects, Only, Premise}

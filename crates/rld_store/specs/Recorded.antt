@@ -1,29 +1,28 @@
 -- A batch that is recorded, or refused.
 use Rattle.std.specs.Prelude.{◌≡◌, ℕ, Bool, true, false, List, Option, Some, None, Result, Ok, Err}
 use Rattle.rsl_event.specs.declared.event.Decision.{Decision}
-use Rattle.rsl_shard.specs.Restep.{BooksSeen}
 use Rattle.rsl_shard.specs.declared.moved.Move.{Move}
-use Rattle.rld_books.specs.Server.{AreTakenIn, decisions_of}
+use Rattle.rld_books.specs.Server.{AreTakenIn, ServerSeen, decisions_of}
 use Rattle.rld_store.specs.declared.fault.RecordFault.{RecordFault}
 use Rattle.rld_store.specs.declared.fault.RecordFault.TheVariants.{Failed, Ended}
 
--- its moves, the books before it, a decision on each of the moves, and the era of these books
+-- its moves, the books before it, a decision on each of the moves, and the number of their table
 pub record RecordedSeen : Type 0 where
   pub batch : List Move
-  pub before : List BooksSeen
+  pub before : ServerSeen
   pub decisions : List Decision
-  pub era : ℕ
+  pub table : ℕ
 
 -- those books can make the moves, and the decisions are theirs
 pub record AreDecided (recorded : RecordedSeen) : Type 0 where
   pub taken : AreTakenIn recorded.before recorded.batch
   pub decided : recorded.decisions ≡ decisions_of recorded.before recorded.batch
 
--- a batch that was prepared with the accounts of an era is of that era alone; one that names no
+-- a batch that was prepared with the accounts of a table is of that table alone; one that names no
 -- account, such as a tick, is of any
-abbrev pub IsOfEra : Option ℕ → (era : ℕ) → Type 0
-IsOfEra None era = Unit {0}
-IsOfEra (Some one) era = era ≡ one
+abbrev pub IsOfTable : Option ℕ → (table : ℕ) → Type 0
+IsOfTable None table = Unit {0}
+IsOfTable (Some one) table = table ≡ one
 
 -- whether nothing more can be recorded after this fault
 abbrev pub is_last : RecordFault → Bool

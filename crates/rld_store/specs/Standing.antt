@@ -1,11 +1,10 @@
 -- What a store stands for: a history, which its log has, and whose moves make its books of those
--- with which its era opened.
+-- with which it opened.
 use Rattle.std.specs.Prelude.{◌≡◌, ℕ, List, length}
 use Rattle.std.specs.List.{AllByRecursion}
 use Rattle.rsl_accounts.specs.Configuration.{Configuration}
-use Rattle.rsl_shard.specs.Restep.{BooksSeen}
 use Rattle.rsl_shard.specs.declared.moved.Move.{Move}
-use Rattle.rld_books.specs.Server.{replay}
+use Rattle.rld_books.specs.Server.{ServerSeen, replay}
 use Rattle.rld_log.specs.Frames.{Fits, frames}
 use Rattle.rld_log.specs.Log.{Extends}
 use Rattle.rld_store.specs.Premises.{Premise}
@@ -13,7 +12,7 @@ use Rattle.rld_log.specs.Recording.{IsSettled, LeavesEither}
 use Rattle.rld_log.specs.declared.log.Ending.{Ending}
 use Rattle.rld_spelling.specs.Moves.{moves_field}
 use Rattle.rld_spelling.specs.declared.moves.Counts.{Counts}
-use Rattle.rld_store.specs.Generations.{AreOfHistory, HasHistoryOr, counts_of}
+use Rattle.rld_store.specs.Generations.{AreOfHistory, HasHistoryOr, counts_of, octets_of}
 use Rattle.rld_store.specs.declared.store.End.{End}
 use Rattle.rld_store.specs.declared.store.End.TheVariants.{Settled, Unsettled}
 
@@ -36,12 +35,13 @@ EndsSo Unsettled tears seen may_leave payloads unanswered =
     IsUnsettled tears seen may_leave payloads unanswered
 
 -- The log has a history, and at its end perhaps an unanswered batch; the books are what the history
--- makes of those with which the era opened.
-pub record StandsFor (config : Configuration) (opening : List BooksSeen) (counts : Counts)
-    (tears : List ℕ → List ℕ → Type 0) (end : End) (seen : List ℕ)
-    (may_leave : Ending → List ℕ → Type 0) (whole : ℕ) (books : List BooksSeen)
+-- makes of those with which it opened.
+pub record StandsFor (config : Configuration) (opening : ServerSeen) (counts : Counts)
+    (table : List ℕ) (tears : List ℕ → List ℕ → Type 0) (end : End) (seen : List ℕ)
+    (may_leave : Ending → List ℕ → Type 0) (whole : ℕ) (books : ServerSeen)
     (history unanswered : List Move) : Type 0 where
   pub counts_are : counts ≡ counts_of config
+  pub table_is : table ≡ octets_of config
   pub payloads : List (List ℕ)
   pub are : AreOfHistory config opening history payloads
   pub unanswered_fits : (moves_field counts).Fits unanswered
@@ -50,7 +50,7 @@ pub record StandsFor (config : Configuration) (opening : List BooksSeen) (counts
   pub replayed : books ≡ replay opening history
 
 -- a crash leaves the history, or the history and the unanswered batch, whole
-abbrev pub LosesNothing : (config : Configuration) → (opening : List BooksSeen)
+abbrev pub LosesNothing : (config : Configuration) → (opening : ServerSeen)
     → (tears : List ℕ → List ℕ → Type 0) → (may_leave : Ending → List ℕ → Type 0)
     → (history unanswered : List Move) → Type 0
 LosesNothing config opening tears may_leave history unanswered =

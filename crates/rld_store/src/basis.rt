@@ -1,5 +1,5 @@
 ghost use Rattle.std.specs.Prelude.{◌≡◌, List};
-ghost use Rattle.rsl_shard.specs.Restep.{BooksSeen};
+ghost use Rattle.rld_books.specs.Server.{ServerSeen};
 ghost use Rattle.rsl_shard.specs.declared.moved.Move.{Move as OneMove};
 
 use rld_books::ServerBooks;
@@ -12,7 +12,7 @@ use std::marker::Model;
 #[derive(Drop)]
 pub(crate) struct Basis {
     ghost batch: { List OneMove },
-    ghost before: { List BooksSeen },
+    ghost before: { ServerSeen },
 }
 
 impl Model for Basis {

@@ -7,7 +7,6 @@ ghost use Rattle.rld_store.specs.Premises.{Only, Premise};
 ghost use Rattle.rld_log.specs.Recording.{IsSettled};
 ghost use Rattle.rld_log.specs.declared.log.Ending.{Ending as OneEnding};
 ghost use Rattle.rld_spelling.specs.Books.{books_field, books_seen};
-ghost use Rattle.rld_spelling.specs.Headers.{header_field, header_octets};
 ghost use Rattle.rld_store.specs.Beginning.{HasAtMostOne, IsBegun, IsFront};
 ghost use Rattle.rld_store.specs.Generations.{HasGeneration, IsUnbegun, counts_of};
 
@@ -57,40 +56,42 @@ fn snapshot_of(alloc: Global, books: &[SavedBook], clients: u32) -> Result<Vec<u
     Ok(octets)
 }
 
-/// The front of a generation.
+/// The first payloads of a generation.
 #[derive(Drop)]
-struct Front {
-    /// The payload of the header.
-    header: Vec<u8>,
+struct Beginning {
+    /// The payload of the header and the table.
+    front: Vec<u8>,
     /// The payload of the snapshot.
     snapshot: Vec<u8>,
     /// The length of the frames of both.
     whole: usize,
 }
 
-/// The front of a generation that begins with these books.
-fn front_of(
+/// The first payloads of a generation with the table of these octets that begins with these books.
+fn beginning_of(
     alloc: Global,
     header: Header,
+    table: &[u8],
     counts: Counts,
     books: &ServerBooks,
-) -> Result<Front, StoreFault>
-    ensures { IfOk result (λ front.
-        IsFront counts header books.now front.header.items front.snapshot.items front.whole) }
+) -> Result<Beginning, StoreFault>
+    ensures { IfOk result (λ made.
+        IsFront counts table.now header books.now made.front.items made.snapshot.items made.whole) }
 {
     header.has_spelling();
     let mut first = Vec::new(alloc);
     header.push(&mut first)?;
+    first.extend_from_slice(table)?;
     let saved = books.save(alloc)?;
     let second = snapshot_of(alloc, &saved, counts.clients)?;
-    let Some(front) = whole_with(0, first.len()) else {
+    let Some(end) = whole_with(0, first.len()) else {
         return Err(StoreFault::TooLong);
     };
-    let Some(whole) = whole_with(front, second.len()) else {
+    let Some(whole) = whole_with(end, second.len()) else {
         return Err(StoreFault::TooLong);
     };
-    Ok(Front {
-        header: first,
+    Ok(Beginning {
+        front: first,
         snapshot: second,
         whole,
     })
@@ -132,26 +133,27 @@ fn record_both<L: Log>(
     Ok(())
 }
 
-/// Begins a generation with these books in an empty log: writes its header and a snapshot, and
-/// syncs each. Gives the length of their frames.
+/// Begins a generation with the table of these octets and with these books in an empty log: writes its
+/// header with the table, and a snapshot, and syncs each. Gives the length of their frames.
 pub(crate) fn begin_log<L: Log>(
     alloc: Global,
     log: &mut L,
     header: Header,
+    table: &[u8],
     counts: Counts,
     books: &ServerBooks,
 ) -> Result<usize, StoreFault>
     ensures told { IsTrue (L.tells log.new) → IsTrue (L.tells log.old) }
     ensures begun { IsTrue (L.tells log.new) → Only (L.seen log.old) (L.may_leave log.old) →
-        IfOk result (IsBegun counts header books.now (L.seen log.new) (L.may_leave log.new)) }
+        IfOk result (IsBegun counts table.now header books.now (L.seen log.new) (L.may_leave log.new)) }
 
     // A crash at any call leaves no generation, or this one.
     ensures crash { IsTrue (L.tells log.new) → Only (L.seen log.old) (L.may_leave log.old) → L.seen log.old ≡ [] →
         (ending : OneEnding) → Premise L.tears ending → (left : List ℕ) → L.may_leave log.new ending left →
-        IsUnbegun left ⊎ HasGeneration counts header books.now [] left }
+        IsUnbegun left ⊎ HasGeneration counts table.now header books.now [] left }
 {
-    let front = front_of(alloc, header, counts, books)?;
+    let made = beginning_of(alloc, header, table, counts, books)?;
     check_empty(alloc, log)?;
-    record_both(alloc, log, &front.header, &front.snapshot)?;
-    Ok(front.whole)
+    record_both(alloc, log, &made.front, &made.snapshot)?;
+    Ok(made.whole)
 }

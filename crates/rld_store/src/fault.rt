@@ -38,6 +38,12 @@ pub enum StoreFault {
     /// such a fault in its header.
     #[error("{0}")]
     Malformed(Malformed),
+    /// The generation has another table than the configuration.
+    #[error("{offset}: another table")]
+    OtherTable {
+        /// The offset of its table in the log, in octets.
+        offset: usize,
+    },
     /// The snapshot is not of the configuration's accounts.
     #[error("{offset}: {fault}")]
     Misfit {

@@ -4,7 +4,7 @@ ghost use Rattle.std.specs.Prelude.{List};
 ghost use Rattle.rld_store.specs.Laws.{FilesHaveOneState};
 ghost use Rattle.rld_store.specs.Standing.{LosesNothing, StandsFor};
 ghost use Rattle.rsl_accounts.specs.Configuration.{Configuration};
-ghost use Rattle.rsl_shard.specs.Restep.{BooksSeen};
+ghost use Rattle.rld_books.specs.Server.{ServerSeen};
 ghost use Rattle.rsl_shard.specs.declared.moved.Move.{Move as OneMove};
 
 use crate::store::Store;
@@ -14,15 +14,15 @@ use rld_log::Log;
 /// history and the unanswered batch, whole. For a loss of power the premise is that no torn write
 /// passes for a frame by chance; for a kill that is proved.
 pub fn crashes_lose_nothing<L: Log>(store: &Store<L>)
-    ensures { (config : Configuration) (opening : List BooksSeen) (history unanswered : List OneMove) →
-        StandsFor config opening store.now.counts L.tears store.now.end (L.seen store.now.log) (L.may_leave store.now.log)
+    ensures { (config : Configuration) (opening : ServerSeen) (history unanswered : List OneMove) →
+        StandsFor config opening store.now.counts store.now.table.items L.tears store.now.end (L.seen store.now.log) (L.may_leave store.now.log)
         store.now.whole store.now.books history unanswered →
         LosesNothing config opening L.tears (L.may_leave store.now.log) history unanswered }
 {
     let _store = store;
 }
 
-/// A file stands for one state: whatever histories are found in it, and whatever books their eras
+/// A file stands for one state: whatever histories are found in it, and whatever books they
 /// opened with, the resulting books are the same.
 pub fn files_have_one_state()
     ensures { FilesHaveOneState }

@@ -7,7 +7,7 @@ ghost use Rattle.rld_log.specs.Log.{NoMore};
 ghost use Rattle.rld_log.specs.Recording.{IsSettled};
 ghost use Rattle.rld_store.specs.Premises.{Only};
 ghost use Rattle.rld_log.specs.declared.log.Ending.{Ending as OneEnding};
-ghost use Rattle.rld_store.specs.Generations.{counts_of};
+ghost use Rattle.rld_store.specs.Generations.{counts_of, octets_of};
 ghost use Rattle.rld_store.specs.Opening.{IsFoundIn, IsOfNoLog, IsThereIn, IsWhy, IsWhyNoFrames, LeavesAsItWas};
 
 use crate::fault::StoreFault;
@@ -43,13 +43,14 @@ pub fn read_frames<L: Log>(alloc: Global, log: &mut L) -> Result<Frames, StoreFa
 /// The generation of a log, and the length of its whole frames.
 fn generation_in(alloc: Global, config: &Config, frames: &Frames) -> Result<Restored, StoreFault>
     ensures server { IfOk result (λ restored. IsServerOf config.now restored.reading.books) }
+    ensures table { IfOk result (λ restored. restored.reading.table.items ≡ octets_of config.now) }
     ensures found { IfOk result (λ restored. (before : List (List ℕ)) → HasPayloads frames.now.octets.items before →
         IsFoundIn config.now before restored.reading.header restored.reading.books restored.reading.moves) }
     ensures there { IfOk result (λ restored. IsThereIn config.now frames.now.octets.items
         restored.reading.header restored.reading.books restored.reading.moves) }
     ensures ends { IfOk result (λ restored. ∥ EndsAt frames.now.octets.items restored.whole ∥₁) }
     ensures torn { IfOk result (λ restored. length frames.now.octets.items ≡ restored.whole + restored.torn) }
-    ensures why { IfErr result (IsWhy (counts_of config.now) frames.now.octets.items) }
+    ensures why { IfErr result (IsWhy (counts_of config.now) (octets_of config.now) frames.now.octets.items) }
     ensures unlogged { IfErr result IsOfNoLog }
 {
     let payloads = frames.payloads(alloc)?;
@@ -71,6 +72,7 @@ pub(crate) fn restore<L: Log>(
     requires { IsTrue (L.tells log.old) → given.now.octets.items ≡ L.seen log.old }
     ensures told { IsTrue (L.tells log.new) → IsTrue (L.tells log.old) }
     ensures server { IfOk result (λ restored. IsServerOf config.now restored.reading.books) }
+    ensures table { IfOk result (λ restored. restored.reading.table.items ≡ octets_of config.now) }
 
     // What is found is what the frames have: they have a generation, and are the log's.
     ensures there { IfOk result (λ restored. IsThereIn config.now given.now.octets.items
@@ -93,7 +95,7 @@ pub(crate) fn restore<L: Log>(
         (ending : OneEnding) (left : List ℕ) → L.may_leave log.new ending left → HasPayloads left before }
 
     // Why the log is refused, and that it stays as it was.
-    ensures why { IsTrue (L.tells log.new) → IfErr result (IsWhy (counts_of config.now) (L.seen log.old)) }
+    ensures why { IsTrue (L.tells log.new) → IfErr result (IsWhy (counts_of config.now) (octets_of config.now) (L.seen log.old)) }
     ensures untouched { IsTrue (L.tells log.new) → IfErr result (λ fault.
         LeavesAsItWas fault (L.seen log.old) (L.seen log.new) (L.may_leave log.old) (L.may_leave log.new)) }
 {

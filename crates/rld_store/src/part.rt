@@ -1,21 +1,24 @@
 //! A payload of a generation, and what it spells.
 
-ghost use Rattle.std.specs.Prelude.{◌≡◌, ◌+◌, ◌-◌, ℕ, List, length, IfErr, IfOk};
+ghost use Rattle.std.specs.Prelude.{◌≡◌, ◌+◌, ◌-◌, ◌≤◌, ℕ, List, Ok, length, IfErr, IfOk};
 ghost use Rattle.rld_books.specs.Saved.{IsServerOf};
 ghost use Rattle.rld_log.specs.Frames.{Fits};
-ghost use Rattle.rld_spelling.specs.Headers.{header_at, header_field, header_octets};
+ghost use Rattle.rld_spelling.specs.Former.{former_header_at};
+ghost use Rattle.rld_spelling.specs.Lists.{all_of};
+ghost use Rattle.rld_spelling.specs.Headers.{header_at, header_field};
 ghost use Rattle.rld_spelling.specs.Moves.{moves_field};
 ghost use Rattle.rld_spelling.specs.declared.header.Header.{Header as OneHeader};
-ghost use Rattle.rld_store.specs.Generations.{IsSnapshot, counts_of};
-ghost use Rattle.rld_store.specs.Opening.{IsFirstFault, IsWhyNoBooks, IsWhyNoMoves};
+ghost use Rattle.rld_store.specs.Former.{IsFormerSnapshot};
+ghost use Rattle.rld_store.specs.Generations.{IsSnapshot, counts_of, front_octets};
+ghost use Rattle.rld_store.specs.Opening.{IsFirstFault, IsFrontFault, IsWhyNoBooks, IsWhyNoMoves};
 ghost use Rattle.rld_store.specs.declared.fault.StoreFault.TheVariants.{TooLong as too_long};
-ghost use Rattle.rsl_shard.specs.Restep.{BooksSeen};
+ghost use Rattle.rld_books.specs.Server.{ServerSeen};
 ghost use Rattle.rsl_shard.specs.declared.moved.Move.{Move as OneMove};
 
 use crate::beginning::whole_with;
 use crate::fault::{Malformed, StoreFault};
 use rld_books::{ServerBooks, ServerFault};
-use rld_spelling::{Counts, Fault, Header, ReadFault, read_books};
+use rld_spelling::{Counts, Fault, FormerHeader, Header, ReadFault, former_header, read_books};
 use rsl_accounts::Config;
 use rsl_shard::Move;
 use std::alloc::Global;
@@ -27,6 +30,15 @@ pub struct Part<'a> {
     pub payload: &'a [u8],
     /// The offset of its end in the log, in octets.
     pub end: usize,
+}
+
+/// The first payload of a generation.
+#[derive(Clone, Copy)]
+pub struct Front<'a> {
+    /// The header.
+    pub header: Header,
+    /// The octets of the table behind it.
+    pub table: Part<'a>,
 }
 
 impl<'a> Part<'a> {
@@ -62,15 +74,35 @@ impl<'a> Part<'a> {
         }
     }
 
-    /// The header in the payload.
-    pub fn header(self) -> Result<Header, Malformed>
-        ensures spelled { IfOk result (λ header.
-            (self.entry.payload.now ≡ header_octets header) × header_field.Fits header) }
-        ensures only { IfOk result (λ found. (header : OneHeader) → header_field.Fits header →
-            self.entry.payload.now ≡ header_octets header → found ≡ header) }
-        ensures why { IfErr result (IsFirstFault header_at self.entry.end self.entry.payload.now) }
+    /// The header at the front of the payload, and the table behind it.
+    pub fn front(self) -> Result<Front<'a>, Malformed>
+        ensures spelled { IfOk result (λ front. (self.entry.payload.now
+            ≡ front_octets front.header front.table.payload.now) × header_field.Fits front.header) }
+        ensures only { IfOk result (λ front. (header : OneHeader) (table : List ℕ) →
+            header_field.Fits header → self.entry.payload.now ≡ front_octets header table →
+            (front.header ≡ header) × (front.table.payload.now ≡ table)) }
+        ensures end { IfOk result (λ front. front.table.end ≡ self.entry.end) }
+        ensures why { IfErr result (IsFrontFault header_at self.entry.end self.entry.payload.now) }
     {
-        match Header::read(self.payload) {
+        match Header::read_front(self.payload) {
+            Ok((header, table)) => Ok(Front {
+                header,
+                table: Part {
+                    payload: table,
+                    end: self.end,
+                },
+            }),
+            Err(fault) => Err(self.malformed(fault)),
+        }
+    }
+
+    /// The header in the payload, which a version before format 3 wrote.
+    pub fn former_header(self) -> Result<FormerHeader, Malformed>
+        ensures read { IfOk result (λ header.
+            all_of (former_header_at self.entry.payload.now) ≡ Ok header) }
+        ensures why { IfErr result (IsFirstFault former_header_at self.entry.end self.entry.payload.now) }
+    {
+        match former_header(self.payload) {
             Ok(header) => Ok(header),
             Err(fault) => Err(self.malformed(fault)),
         }
@@ -79,7 +111,7 @@ impl<'a> Part<'a> {
     /// The books of the snapshot in the payload.
     pub fn books(self, alloc: Global, config: &Config) -> Result<ServerBooks, StoreFault>
         ensures server { IfOk result (λ books. IsServerOf config.now books) }
-        ensures only { IfOk result (λ books. (begun : List BooksSeen) → IsServerOf config.now begun →
+        ensures only { IfOk result (λ books. (begun : ServerSeen) → IsServerOf config.now begun →
             IsSnapshot (counts_of config.now) begun self.entry.payload.now → books ≡ begun) }
         ensures spelled { IfOk result (λ books. IsSnapshot (counts_of config.now) books self.entry.payload.now) }
         ensures why { IfErr result
@@ -94,6 +126,37 @@ impl<'a> Part<'a> {
         };
         match ServerBooks::restore(alloc, config, &saved) {
             Ok(books) => Ok(books),
+            Err(ServerFault::NoMemory) => Err(StoreFault::NoMemory),
+            Err(fault) => Err(StoreFault::Misfit {
+                offset: self.begin(),
+                fault,
+            }),
+        }
+    }
+
+    /// The books of the snapshot in the payload, which a version before format 3 wrote, of accounts
+    /// that were dealt to this many shards.
+    pub(crate) fn dealt_books(
+        self,
+        alloc: Global,
+        config: &Config,
+        shards: u32,
+    ) -> Result<ServerBooks, StoreFault>
+        requires some { 1 ≤ shards }
+        requires few { shards ≤ 4 }
+        ensures server { IfOk result (λ books. IsServerOf config.now books) }
+        ensures spelled { IfOk result (λ books.
+            IsFormerSnapshot shards (counts_of config.now) books self.entry.payload.now) }
+    {
+        let saved = match read_books(alloc, self.payload, config.clients()) {
+            Ok(saved) => saved,
+            Err(ReadFault::NoMemory) => return Err(StoreFault::NoMemory),
+            Err(ReadFault::Malformed(fault)) => {
+                return Err(StoreFault::Malformed(self.malformed(fault)));
+            }
+        };
+        match ServerBooks::restore_dealt(alloc, config, shards, &saved) {
+            Ok(dealt) => Ok(dealt),
             Err(ServerFault::NoMemory) => Err(StoreFault::NoMemory),
             Err(fault) => Err(StoreFault::Misfit {
                 offset: self.begin(),

@@ -9,8 +9,8 @@ use crate::part::Part;
 /// The parts of a generation.
 #[derive(Clone, Copy)]
 pub struct Parts<'a> {
-    /// The header.
-    pub header: Part<'a>,
+    /// The header with the table.
+    pub front: Part<'a>,
     /// The snapshot, whose frame follows that of the header.
     pub snapshot: Part<'a>,
     /// The payloads of the batches, whose frames follow that of the snapshot.
@@ -46,13 +46,13 @@ impl<'a> Parts<'a> {
         ensures are { IfOk result (AreParts (map (λ payload. payload.now) payloads.now)) }
         ensures why { IfErr result (IsWhyNoParts (map (λ payload. payload.now) payloads.now)) }
     {
-        let Some((header, snapshot, batches)) = front_and_rest(payloads) else {
+        let Some((front, snapshot, batches)) = front_and_rest(payloads) else {
             return Err(StoreFault::Unbegun);
         };
-        let header = Part::after(0, header)?;
-        let snapshot = Part::after(header.end, snapshot)?;
+        let front = Part::after(0, front)?;
+        let snapshot = Part::after(front.end, snapshot)?;
         Ok(Parts {
-            header,
+            front,
             snapshot,
             batches,
         })

@@ -4,8 +4,8 @@ ghost use Rattle.std.specs.Prelude.{◌≡◌, ℕ, List, [], ◌∷◌, length,
 ghost use Rattle.rld_books.specs.Saved.{IsServerOf};
 ghost use Rattle.rld_books.specs.Server.{replay};
 ghost use Rattle.rld_log.specs.Frames.{frames};
-ghost use Rattle.rld_store.specs.Generations.{AreBatches, counts_of};
-ghost use Rattle.rld_store.specs.Opening.{AreReplayed, IsFoundIn, IsThere, IsWhyUnread};
+ghost use Rattle.rld_store.specs.Generations.{AreBatches, counts_of, octets_of};
+ghost use Rattle.rld_store.specs.Opening.{AreReplayed, IsFoundIn, IsThere, IsWhyOther, IsWhyUnread};
 ghost use Rattle.rld_store.specs.declared.fault.StoreFault.TheVariants.{Foreign as foreign};
 ghost use Rattle.rsl_accounts.specs.Configuration.{Configuration};
 ghost use Rattle.rsl_shard.specs.declared.moved.Move.{Move as OneMove};
@@ -14,7 +14,7 @@ use crate::beginning::counts_in;
 use crate::fault::StoreFault;
 use crate::part::Part;
 use crate::parts::{Parts, payload_at};
-use rld_books::ServerBooks;
+use rld_books::{ServerBooks, table_octets};
 use rld_spelling::{Counts, Header};
 use rsl_accounts::Config;
 use rsl_shard::Move;
@@ -25,6 +25,8 @@ use std::alloc::Global;
 pub(crate) struct Reading {
     /// The header.
     pub(crate) header: Header,
+    /// The octets of its table.
+    pub(crate) table: Vec<u8>,
     /// The books after its moves.
     pub(crate) books: ServerBooks,
     /// The number of its moves.
@@ -46,7 +48,7 @@ fn make_each(books: &mut ServerBooks, offset: usize, batch: Vec<Move>) -> Result
 }
 
 /// Makes the moves of batches, whose frames follow others of this length, and counts them.
-fn replay_each(
+pub(crate) fn replay_each(
     alloc: Global,
     counts: Counts,
     books: &mut ServerBooks,
@@ -61,9 +63,9 @@ fn replay_each(
         AreBatches counts moves (map (λ payload. payload.now) payloads.now) → count ≡ length moves) }
     ensures spelled { IfOk result
         (AreReplayed counts (map (λ payload. payload.now) payloads.now) books.old books.new) }
-    ensures why { IfErr result (λ fault. (header snapshot : List ℕ) →
-        whole ≡ length (frames (header ∷ snapshot ∷ [])) →
-        IsWhyUnread counts (header ∷ snapshot ∷ map (λ payload. payload.now) payloads.now) fault) }
+    ensures why { IfErr result (λ fault. (front snapshot table : List ℕ) →
+        whole ≡ length (frames (front ∷ snapshot ∷ [])) →
+        IsWhyUnread counts table (front ∷ snapshot ∷ map (λ payload. payload.now) payloads.now) fault) }
 {
     let mut count: usize = 0;
     let mut end = whole;
@@ -86,27 +88,52 @@ fn replay_each(
     Ok(count)
 }
 
-/// Reads the payloads of a generation. `Unbegun` comes before any other fault.
+/// The octets of a configuration's table, which a generation has. `OtherTable` comes if it has another
+/// one.
+fn own_table(alloc: Global, config: &Config, found: Part<'_>) -> Result<Vec<u8>, StoreFault>
+    ensures own { IfOk result (λ own. own.items ≡ octets_of config.now) }
+    ensures same { OnOk result (found.entry.payload.now ≡ octets_of config.now) }
+    ensures why { IfErr result (IsWhyOther (octets_of config.now) found.entry.end found.entry.payload.now) }
+{
+    let own = match table_octets(alloc, config) {
+        Ok(own) => own,
+        Err(_) => return Err(StoreFault::NoMemory),
+    };
+    if found.payload != own.as_slice() {
+        return Err(StoreFault::OtherTable {
+            offset: found.begin(),
+        });
+    }
+    Ok(own)
+}
+
+/// Reads the payloads of a generation, which has to have the configuration's table. `Unbegun` comes
+/// before any other fault.
 pub(crate) fn read_generation(
     alloc: Global,
     config: &Config,
     payloads: &[&[u8]],
 ) -> Result<Reading, StoreFault>
     ensures server { IfOk result (λ reading. IsServerOf config.now reading.books) }
+    ensures table { IfOk result (λ reading. reading.table.items ≡ octets_of config.now) }
     ensures found { IfOk result (λ reading. IsFoundIn config.now (map (λ payload. payload.now) payloads.now)
         reading.header reading.books reading.moves) }
     ensures there { IfOk result (λ reading. IsThere config.now (map (λ payload. payload.now) payloads.now)
         reading.header reading.books reading.moves) }
     ensures why { IfErr result
-        (IsWhyUnread (counts_of config.now) (map (λ payload. payload.now) payloads.now)) }
+        (IsWhyUnread (counts_of config.now) (octets_of config.now) (map (λ payload. payload.now) payloads.now)) }
 {
     let parts = match Parts::of(payloads) {
         Ok(parts) => parts,
         Err(fault) => return Err(fault),
     };
-    let header = match parts.header.header() {
-        Ok(header) => header,
+    let front = match parts.front.front() {
+        Ok(front) => front,
         Err(bad) => return Err(StoreFault::Malformed(bad)),
+    };
+    let table = match own_table(alloc, config, front.table) {
+        Ok(table) => table,
+        Err(fault) => return Err(fault),
     };
     let mut books = match parts.snapshot.books(alloc, config) {
         Ok(books) => books,
@@ -115,7 +142,8 @@ pub(crate) fn read_generation(
     let counts = counts_in(config);
     match replay_each(alloc, counts, &mut books, parts.snapshot.end, parts.batches) {
         Ok(moves) => Ok(Reading {
-            header,
+            header: front.header,
+            table,
             books,
             moves,
         }),

@@ -6,12 +6,12 @@ use std::marker::Model;
 /// what is answered from it is on the disk.
 ///
 /// A contract also sees the batch and the books before it, from which the decisions follow, and the
-/// era in which the batch was recorded.
+/// number of the table to which the batch belongs.
 #[derive(Drop)]
 pub struct Recorded {
     basis: Basis,
     decisions: Vec<Decision>,
-    era: u64,
+    table: u64,
 }
 
 impl Model for Recorded {
@@ -23,14 +23,14 @@ impl Model for Recorded {
       batch = inside.basis.batch;
       before = inside.basis.before;
       decisions = inside.decisions.items;
-      era = inside.era;
+      table = inside.table;
     } };
 
     ghost invariant = { λ inside. AreDecided (record {
       batch = inside.basis.batch;
       before = inside.basis.before;
       decisions = inside.decisions.items;
-      era = inside.era;
+      table = inside.table;
     }) };
 }
 
@@ -39,21 +39,21 @@ impl Recorded {
     ghost use Rattle.rld_books.specs.Server.{AreTakenIn, decisions_of};
     ghost use Rattle.rld_store.specs.Recorded.{AreDecided};
 
-    /// The decisions on a batch that was recorded in this era.
-    pub(crate) fn new(basis: Basis, decisions: Vec<Decision>, era: u64) -> Recorded
+    /// The decisions on a batch of the table of this number.
+    pub(crate) fn new(basis: Basis, decisions: Vec<Decision>, table: u64) -> Recorded
         requires taken { AreTakenIn basis.before basis.batch }
         requires decided { decisions.items ≡ decisions_of basis.before basis.batch }
         ensures { result ≡ record {
           batch = basis.batch;
           before = basis.before;
           decisions = decisions.items;
-          era = era;
+          table = table;
         } }
     {
         Recorded {
             basis,
             decisions,
-            era,
+            table,
         }
     }
 

@@ -2,14 +2,14 @@ ghost use Rattle.std.specs.Prelude.{◌≡◌, ◌⊎◌, ◌+◌, ◌≤◌, �
 ghost use Rattle.std.specs.List.{All};
 ghost use Rattle.std.specs.Option.{option_map};
 ghost use Rattle.rld_books.specs.Saved.{IsServerOf, links_in, rows_in};
-ghost use Rattle.rld_books.specs.Server.{AreTakenIn, decisions_of, new_server, replay};
+ghost use Rattle.rld_books.specs.Server.{AreTakenIn, ServerSeen, decisions_of, new_server, replay};
 ghost use Rattle.rld_log.specs.Frames.{Fits, HasPayloads, frames};
 ghost use Rattle.rld_store.specs.Premises.{Only, Premise};
 ghost use Rattle.rld_log.specs.Recording.{IsSettled};
 ghost use Rattle.rld_log.specs.declared.log.Ending.{Ending as OneEnding};
 ghost use Rattle.rld_spelling.specs.Moves.{MoveFits, moves_field};
 ghost use Rattle.rld_store.specs.Beginning.{IsBegun};
-ghost use Rattle.rld_store.specs.Generations.{HasHistory, IsUnbegun, StandForHistory, counts_of};
+ghost use Rattle.rld_store.specs.Generations.{HasHistory, IsUnbegun, StandForHistory, counts_of, octets_of};
 ghost use Rattle.rld_store.specs.Opening.{IsFoundIn, IsThereIn, IsWhy, LeavesAsItWas};
 ghost use Rattle.rld_store.specs.Recorded.{AreDecided, is_last};
 ghost use Rattle.rld_store.specs.Standing.{EndsSo, StandsFor};
@@ -17,7 +17,6 @@ ghost use Rattle.rld_store.specs.Stored.{is_unsynced, record_fault};
 ghost use Rattle.rld_store.specs.declared.store.End.TheVariants.{Settled as settled, Unsettled as unsettled};
 ghost use Rattle.rsl_accounts.specs.Configuration.{Configuration};
 ghost use Rattle.rsl_session.specs.Saved.{saved_links};
-ghost use Rattle.rsl_shard.specs.Restep.{BooksSeen};
 ghost use Rattle.rsl_shard.specs.declared.moved.Move.{Move as OneMove};
 
 use crate::basis::Basis;
@@ -26,7 +25,7 @@ use crate::fault::{Refused, StoreFault};
 use crate::opening::{Restored, restore};
 use crate::reading::Reading;
 use crate::recorded::Recorded;
-use rld_books::ServerBooks;
+use rld_books::{ServerBooks, table_octets};
 use rld_log::{Frames, HEAD_LEN, Log, LogFault, leave_head, mend, record_in_place};
 use rld_spelling::{Counts, Header, SpellFault};
 use rsl_accounts::Config;
@@ -51,6 +50,7 @@ pub struct Store<L: Log> {
     pub(crate) log: L,
     pub(crate) header: Header,
     pub(crate) counts: Counts,
+    pub(crate) table: Vec<u8>,
     pub(crate) books: ServerBooks,
     pub(crate) whole: usize,
     pub(crate) end: End,
@@ -90,17 +90,18 @@ impl<L: Log> Store<L> {
         ensures refused { IfErr result (λ refused. IsTrue (L.tells refused.log) → IsTrue (L.tells log)) }
 
         ensures header { IfOk result (λ store. store.header ≡ header) }
+        ensures table { IfOk result (λ store. store.table.items ≡ octets_of config.now) }
         ensures over { IfOk result (λ store. store.is_over ≡ false) }
 
         // The log has this header and a snapshot of new books.
         ensures begun { IfOk result (λ store. IsTrue (L.tells store.log) →
             Only (L.seen log) (L.may_leave log) →
-            IsBegun store.counts header (new_server config.now) (L.seen store.log) (L.may_leave store.log) store.whole) }
+            IsBegun store.counts store.table.items header (new_server config.now) (L.seen store.log) (L.may_leave store.log) store.whole) }
 
         // The store stands for a history of no moves.
         ensures stands { IfOk result (λ store. IsTrue (L.tells store.log) →
             Only (L.seen log) (L.may_leave log) →
-            StandsFor config.now (new_server config.now) store.counts L.tears store.end
+            StandsFor config.now (new_server config.now) store.counts store.table.items L.tears store.end
             (L.seen store.log) (L.may_leave store.log) store.whole store.books [] []) }
 
         // After a fault a crash leaves no generation, or one that stands for no moves.
@@ -119,9 +120,9 @@ impl<L: Log> Store<L> {
         }
     }
 
-    /// Begins the first generation of an era that opens with these books, in an empty log: writes
-    /// its header and a snapshot of them, and syncs each. A log that is not empty is refused as
-    /// `Occupied`.
+    /// Begins a generation of a configuration that opens with these books, in an empty log: writes its
+    /// header with the configuration's table and a snapshot of them, and syncs each. A log that is not
+    /// empty is refused as `Occupied`.
     ///
     /// The books have to be of the configuration, as `ServerBooks::restore` and `ServerBooks::cut`
     /// give them: else a later `open` refuses the log as `Misfit`.
@@ -136,17 +137,18 @@ impl<L: Log> Store<L> {
         ensures refused { IfErr result (λ refused. IsTrue (L.tells refused.log) → IsTrue (L.tells log)) }
         ensures books { IfOk result (λ store. store.books ≡ books) }
         ensures header { IfOk result (λ store. store.header ≡ header) }
+        ensures table { IfOk result (λ store. store.table.items ≡ octets_of config.now) }
         ensures over { IfOk result (λ store. store.is_over ≡ false) }
 
         // The log has this header and a snapshot of these books.
         ensures begun { IfOk result (λ store. IsTrue (L.tells store.log) →
             Only (L.seen log) (L.may_leave log) →
-            IsBegun store.counts header books (L.seen store.log) (L.may_leave store.log) store.whole) }
+            IsBegun store.counts store.table.items header books (L.seen store.log) (L.may_leave store.log) store.whole) }
 
         // The store stands for a history of no moves after these books.
         ensures stands { IfOk result (λ store. IsTrue (L.tells store.log) →
             Only (L.seen log) (L.may_leave log) → IsServerOf config.now books →
-            StandsFor config.now books store.counts L.tears store.end (L.seen store.log) (L.may_leave store.log)
+            StandsFor config.now books store.counts store.table.items L.tears store.end (L.seen store.log) (L.may_leave store.log)
             store.whole store.books [] []) }
 
         // After a fault a crash leaves no generation, or one that stands for no moves after them.
@@ -158,26 +160,33 @@ impl<L: Log> Store<L> {
     {
         let counts = counts_in(config);
         let mut log = log;
-        match begin_log(alloc, &mut log, header, counts, &books) {
-            Ok(whole) => Ok(Store {
+        match table_octets(alloc, config) {
+            Ok(table) => match begin_log(alloc, &mut log, header, &table, counts, &books) {
+                Ok(whole) => Ok(Store {
+                    log,
+                    header,
+                    counts,
+                    table,
+                    books,
+                    whole,
+                    end: End::Settled,
+                    is_over: false,
+                    buffer: Vec::new(alloc),
+                }),
+                Err(fault) => Err(Refused { log, fault }),
+            },
+            Err(_) => Err(Refused {
                 log,
-                header,
-                counts,
-                books,
-                whole,
-                end: End::Settled,
-                is_over: false,
-                buffer: Vec::new(alloc),
+                fault: StoreFault::NoMemory,
             }),
-            Err(fault) => Err(Refused { log, fault }),
         }
     }
 
     /// Opens a log that a crash may have left, by the frames read from it: the books are those of
     /// its snapshot after its moves. Its torn end is cut off and the log is synced.
     ///
-    /// A log that has no whole snapshot, is of another version, or whose snapshot or moves do not
-    /// fit the configuration, is refused by name and stays as it was.
+    /// A log that has no whole snapshot, is of another version, has another table than the
+    /// configuration, or whose snapshot or moves do not fit it, is refused by name and stays as it was.
     pub fn open(
         alloc: Global,
         config: &Config,
@@ -187,6 +196,7 @@ impl<L: Log> Store<L> {
         requires { IsTrue (L.tells log) → frames.now.octets.items ≡ L.seen log }
         ensures told { IfOk result (λ opened. IsTrue (L.tells opened.store.log) → IsTrue (L.tells log)) }
         ensures server { IfOk result (λ opened. IsServerOf config.now opened.store.books) }
+        ensures table { IfOk result (λ opened. opened.store.table.items ≡ octets_of config.now) }
         ensures header { IfOk result (λ opened. opened.store.header ≡ opened.header) }
         ensures over { IfOk result (λ opened. opened.store.is_over ≡ false) }
         ensures refused { IfErr result (λ refused. IsTrue (L.tells refused.log) → IsTrue (L.tells log)) }
@@ -199,15 +209,15 @@ impl<L: Log> Store<L> {
 
         // The store stands for the history of the log.
         ensures stands { IfOk result (λ opened. IsTrue (L.tells opened.store.log) →
-            (opening : List BooksSeen) (history : List OneMove) →
+            (opening : ServerSeen) (history : List OneMove) →
             HasHistory config.now opening history (L.seen log) →
-            StandsFor config.now opening opened.store.counts L.tears opened.store.end
+            StandsFor config.now opening opened.store.counts opened.store.table.items L.tears opened.store.end
             (L.seen opened.store.log) (L.may_leave opened.store.log)
             opened.store.whole opened.store.books history []) }
 
         // What was found: the generation's own header and moves, and the length of the torn end.
         ensures found { IfOk result (λ opened. IsTrue (L.tells opened.store.log) →
-            (opening : List BooksSeen) (history : List OneMove) →
+            (opening : ServerSeen) (history : List OneMove) →
             (has : HasHistory config.now opening history (L.seen log)) →
             (opened.header ≡ has.are.header) × (opened.moves ≡ length has.are.moves)) }
         ensures torn { IfOk result (λ opened. IsTrue (L.tells opened.store.log) →
@@ -216,12 +226,12 @@ impl<L: Log> Store<L> {
         // After a fault a crash leaves the same history; and the fault is the reason.
         ensures crash { IfErr result (λ refused. IsTrue (L.tells refused.log) →
             Only (L.seen log) (L.may_leave log) →
-            (opening : List BooksSeen) (history : List OneMove) →
+            (opening : ServerSeen) (history : List OneMove) →
             HasHistory config.now opening history (L.seen log) →
             (ending : OneEnding) (left : List ℕ) → L.may_leave refused.log ending left →
             HasHistory config.now opening history left) }
         ensures why { IfErr result (λ refused. IsTrue (L.tells refused.log) →
-            IsWhy (counts_of config.now) (L.seen log) refused.fault) }
+            IsWhy (counts_of config.now) (octets_of config.now) (L.seen log) refused.fault) }
         ensures untouched { IfErr result (λ refused. IsTrue (L.tells refused.log) →
             LeavesAsItWas refused.fault (L.seen log) (L.seen refused.log)
             (L.may_leave log) (L.may_leave refused.log)) }
@@ -237,6 +247,7 @@ impl<L: Log> Store<L> {
                 } = restored;
                 let Reading {
                     header,
+                    table,
                     books,
                     moves,
                 } = reading;
@@ -244,6 +255,7 @@ impl<L: Log> Store<L> {
                     log,
                     header,
                     counts,
+                    table,
                     books,
                     whole,
                     end: End::Settled,
@@ -270,6 +282,7 @@ impl<L: Log> Store<L> {
         ensures books { self.new.books ≡ self.old.books }
         ensures header { self.new.header ≡ self.old.header }
         ensures counts { self.new.counts ≡ self.old.counts }
+        ensures table { self.new.table ≡ self.old.table }
         ensures whole { self.new.whole ≡ self.old.whole }
         ensures buffer { self.new.buffer.items ≡ self.old.buffer.items }
         ensures settled { OnOk result (self.new.end ≡ settled) }
@@ -302,6 +315,7 @@ impl<L: Log> Store<L> {
         ensures books { self.new.books ≡ self.old.books }
         ensures header { self.new.header ≡ self.old.header }
         ensures counts { self.new.counts ≡ self.old.counts }
+        ensures table { self.new.table ≡ self.old.table }
         ensures whole { OnOk result (self.new.whole ≡ whole) }
         ensures unadded { OnErr result (self.new.whole ≡ self.old.whole) }
         ensures settled { OnOk result (self.new.end ≡ settled) }
@@ -340,10 +354,11 @@ impl<L: Log> Store<L> {
         ensures told { IsTrue (L.tells self.new.log) → IsTrue (L.tells self.old.log) }
         ensures header { self.new.header ≡ self.old.header }
         ensures counts { self.new.counts ≡ self.old.counts }
+        ensures table { self.new.table ≡ self.old.table }
 
         // The decisions are those of the books at that point, and the books have made the moves.
         ensures batch { IfOk result (λ recorded. recorded.batch ≡ batch.items) }
-        ensures era { IfOk result (λ recorded. recorded.era ≡ self.old.header.era) }
+        ensures of { IfOk result (λ recorded. recorded.table ≡ self.old.header.table) }
         ensures before { IfOk result (λ recorded. recorded.before ≡ self.old.books) }
         ensures decided { IfOk result AreDecided }
         ensures decisions { IfOk result (λ recorded.
@@ -356,10 +371,10 @@ impl<L: Log> Store<L> {
 
         // The log then has the history and the batch, synced.
         ensures recorded { IsTrue (L.tells self.new.log) →
-            (config : Configuration) (opening : List BooksSeen) (history unanswered : List OneMove) →
-            StandsFor config opening self.old.counts L.tears self.old.end (L.seen self.old.log) (L.may_leave self.old.log)
+            (config : Configuration) (opening : ServerSeen) (history unanswered : List OneMove) →
+            StandsFor config opening self.old.counts self.old.table.items L.tears self.old.end (L.seen self.old.log) (L.may_leave self.old.log)
             self.old.whole self.old.books history unanswered → OnOk result
-            (StandsFor config opening self.new.counts L.tears settled (L.seen self.new.log) (L.may_leave self.new.log)
+            (StandsFor config opening self.new.counts self.new.table.items L.tears settled (L.seen self.new.log) (L.may_leave self.new.log)
             self.new.whole self.new.books (history ++ batch.items) batch.items) }
         ensures settled { OnOk result (self.new.end ≡ settled) }
         ensures over { self.old.is_over ≡ false → self.new.is_over ≡ is_unsynced result }
@@ -367,12 +382,12 @@ impl<L: Log> Store<L> {
         // After a fault the log has the history, and at its end perhaps an unanswered batch: this
         // one, or an earlier one.
         ensures left { IsTrue (L.tells self.new.log) →
-            (config : Configuration) (opening : List BooksSeen) (history unanswered : List OneMove) →
-            StandsFor config opening self.old.counts L.tears self.old.end (L.seen self.old.log) (L.may_leave self.old.log)
+            (config : Configuration) (opening : ServerSeen) (history unanswered : List OneMove) →
+            StandsFor config opening self.old.counts self.old.table.items L.tears self.old.end (L.seen self.old.log) (L.may_leave self.old.log)
             self.old.whole self.old.books history unanswered → OnErr result
-            (StandsFor config opening self.new.counts L.tears self.new.end (L.seen self.new.log) (L.may_leave self.new.log)
+            (StandsFor config opening self.new.counts self.new.table.items L.tears self.new.end (L.seen self.new.log) (L.may_leave self.new.log)
             self.new.whole self.new.books history unanswered
-            ⊎ StandsFor config opening self.new.counts L.tears self.new.end (L.seen self.new.log) (L.may_leave self.new.log)
+            ⊎ StandsFor config opening self.new.counts self.new.table.items L.tears self.new.end (L.seen self.new.log) (L.may_leave self.new.log)
             self.new.whole self.new.books history batch.items) }
     {
         let decisions = Vec::with_capacity(alloc, batch.len())?;
@@ -387,7 +402,7 @@ impl<L: Log> Store<L> {
         self.add(whole)?;
         let basis = Basis::of(&batch, &self.books);
         let decisions = self.books.make_all(batch, decisions);
-        Ok(Recorded::new(basis, decisions, self.header.era))
+        Ok(Recorded::new(basis, decisions, self.header.table))
     }
 
     // ---- the next generation
@@ -402,6 +417,7 @@ impl<L: Log> Store<L> {
         ensures refused { IfErr result (λ refused. IsTrue (L.tells refused.log) → IsTrue (L.tells next)) }
         ensures books { self.new.books ≡ self.old.books }
         ensures counts { self.new.counts ≡ self.old.counts }
+        ensures table { self.new.table ≡ self.old.table }
         ensures older { IfOk result (λ older. older ≡ self.old.log) }
         ensures header { OnOk result (self.new.header ≡ header) }
         ensures over { self.new.is_over ≡ self.old.is_over }
@@ -409,28 +425,35 @@ impl<L: Log> Store<L> {
 
         // The next log has this header and a snapshot of the books.
         ensures begun { IsTrue (L.tells self.new.log) → Only (L.seen next) (L.may_leave next) → OnOk result
-            (IsBegun self.new.counts header self.new.books (L.seen self.new.log) (L.may_leave self.new.log) self.new.whole) }
+            (IsBegun self.new.counts self.new.table.items header self.new.books (L.seen self.new.log) (L.may_leave self.new.log) self.new.whole) }
 
         // The store stands for the same history, by the next log alone.
         ensures stands { IsTrue (L.tells self.new.log) → Only (L.seen next) (L.may_leave next) →
-            (config : Configuration) (opening : List BooksSeen) (history unanswered : List OneMove) →
-            StandsFor config opening self.old.counts L.tears self.old.end (L.seen self.old.log) (L.may_leave self.old.log)
+            (config : Configuration) (opening : ServerSeen) (history unanswered : List OneMove) →
+            StandsFor config opening self.old.counts self.old.table.items L.tears self.old.end (L.seen self.old.log) (L.may_leave self.old.log)
             self.old.whole self.old.books history unanswered → OnOk result
-            (StandsFor config opening self.new.counts L.tears self.new.end (L.seen self.new.log) (L.may_leave self.new.log)
+            (StandsFor config opening self.new.counts self.new.table.items L.tears self.new.end (L.seen self.new.log) (L.may_leave self.new.log)
             self.new.whole self.new.books history []) }
 
         // After a crash at any call the two logs together stand for it.
         ensures crash { IfErr result (λ refused. IsTrue (L.tells refused.log) → IsTrue (L.tells self.new.log) →
             Only (L.seen next) (L.may_leave next) → L.seen next ≡ [] →
-            (config : Configuration) (opening : List BooksSeen) (history unanswered : List OneMove) →
-            StandsFor config opening self.old.counts L.tears self.old.end (L.seen self.old.log) (L.may_leave self.old.log)
+            (config : Configuration) (opening : ServerSeen) (history unanswered : List OneMove) →
+            StandsFor config opening self.old.counts self.old.table.items L.tears self.old.end (L.seen self.old.log) (L.may_leave self.old.log)
             self.old.whole self.old.books history unanswered →
             (ending : OneEnding) → Premise L.tears ending → (older newer : List ℕ) →
             L.may_leave self.new.log ending older → L.may_leave refused.log ending newer →
             StandForHistory config opening history unanswered older newer) }
     {
         let mut next = next;
-        match begin_log(alloc, &mut next, header, self.counts, &self.books) {
+        match begin_log(
+            alloc,
+            &mut next,
+            header,
+            &self.table,
+            self.counts,
+            &self.books,
+        ) {
             Ok(whole) => {
                 self.header = header;
                 self.whole = whole;
@@ -486,6 +509,15 @@ impl<L: Log> Store<L> {
     {
         let Store { log, .. } = self;
         log
+    }
+}
+
+impl<L: Log + Drop> Store<L> {
+    /// The books, without their log.
+    pub fn into_books(self) -> ServerBooks
+        ensures { result ≡ self.books }
+    {
+        self.books
     }
 }
 

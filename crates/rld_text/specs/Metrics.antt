@@ -153,13 +153,12 @@ abbrev pub recording_of : Recording → ℕ
 recording_of Recorded = 1
 recording_of Failing = 0
 
--- the era and the generation, the second of the start, and whether batches are recorded
-unfoldable pub writing : (era generation start recording : ℕ) → List ℕ
-writing era generation start recording =
-    gauge (codes "radlimitd_era") (codes "Number of the era.") era
-    ++ (gauge (codes "radlimitd_generation") (codes "Number of the generation.") generation
+-- the generation, the second of the start, and whether batches are recorded
+unfoldable pub writing : (generation start recording : ℕ) → List ℕ
+writing generation start recording =
+    gauge (codes "radlimitd_generation") (codes "Number of the generation.") generation
     ++ (gauge (codes "radlimitd_start_time_seconds") (codes "When the server started, in seconds since 1970.") start
-    ++ gauge (codes "radlimitd_recording") (codes "1 where batches are being recorded, else 0.") recording))
+    ++ gauge (codes "radlimitd_recording") (codes "1 where batches are being recorded, else 0.") recording)
 
 -- `number`, and with it the octets that wait at the sockets of a list
 abbrev pub waiting_after : ℕ → List SocketLook → ℕ
@@ -188,7 +187,7 @@ state_gauges clock_behind archive =
 unfoldable pub numbers_text : Look → List ℕ
 numbers_text look =
     held_text look.totals
-    ++ (writing look.era look.generation look.start (recording_of look.recording)
+    ++ (writing look.generation look.start (recording_of look.recording)
     ++ (state_gauges look.clock_behind look.archive
     ++ at_sockets (waiting_after 0 look.sockets.items) (dropped_after 0 look.sockets.items)))
 

@@ -42,12 +42,11 @@ totals_lines totals =
     ++ number_line (codes "stale") totals.stale
     ++ number_line (codes "over") totals.over
 
--- the start, the era, the generation, what all accounts hold, the moves of the generation, and the
--- memory of the books
+-- the start, the generation, what all accounts hold, the moves of the generation, and the memory of
+-- the books
 abbrev pub number_lines : Look → List ℕ
 number_lines look =
     number_line (codes "since") look.start
-    ++ number_line (codes "era") look.era
     ++ number_line (codes "generation") look.generation
     ++ totals_lines look.totals
     ++ number_line (codes "moves") look.moves
@@ -91,11 +90,10 @@ totals_members totals =
 -- the numbers of the lines, and the number of accounts with no free place
 unfoldable pub numbers_members : Look → List ℕ
 numbers_members look =
-    number_member (codes "era") look.era
-    ++ (number_member (codes "generation") look.generation
+    number_member (codes "generation") look.generation
     ++ (totals_members look.totals
     ++ (number_member (codes "full") look.totals.full
-    ++ (number_member (codes "moves") look.moves ++ number_member (codes "memory") look.memory))))
+    ++ (number_member (codes "moves") look.moves ++ number_member (codes "memory") look.memory)))
 
 -- the number of datagrams of a port that ended in this way
 unfoldable pub end_member : (port end : List ℕ) → (number : ℕ) → List ℕ

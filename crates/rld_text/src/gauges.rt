@@ -134,19 +134,16 @@ fn recording_of(recording: Recording) -> u64
     }
 }
 
-/// Writes the era and the generation, the second of the start, and whether batches are recorded.
+/// Writes the generation, the second of the start, and whether batches are recorded.
 #[tactic(auto, unfolding(crate::specs::Metrics::writing))]
 fn push_writing(
     out: &mut Vec<u8>,
-    era: u64,
     generation: u64,
     start: u64,
     recording: u64,
 ) -> Result<(), AllocError>
-    ensures { OnOk result (out.new.items
-        ≡ out.old.items ++ writing era generation start recording) }
+    ensures { OnOk result (out.new.items ≡ out.old.items ++ writing generation start recording) }
 {
-    push_gauge(out, "radlimitd_era", "Number of the era.", era)?;
     push_gauge(
         out,
         "radlimitd_generation",
@@ -235,7 +232,6 @@ pub(crate) fn push_numbers(out: &mut Vec<u8>, look: &Look) -> Result<(), AllocEr
     push_held(out, &look.totals)?;
     push_writing(
         out,
-        look.era,
         look.generation,
         look.start,
         recording_of(look.recording),

@@ -83,7 +83,6 @@ fn push_numbers(alloc: Global, out: &mut Vec<u8>, look: &Look) -> Result<(), All
     ensures { OnOk result (out.new.items ≡ out.old.items ++ number_lines look.entry.now) }
 {
     push_number_line(alloc, out, "since", look.start)?;
-    push_number_line(alloc, out, "era", look.era)?;
     push_number_line(alloc, out, "generation", look.generation)?;
     push_totals(alloc, out, &look.totals)?;
     push_number_line(alloc, out, "moves", look.moves)?;

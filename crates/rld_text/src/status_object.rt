@@ -68,7 +68,6 @@ fn push_recording(out: &mut Vec<u8>, recording: Recording) -> Result<(), AllocEr
 fn push_numbers(out: &mut Vec<u8>, look: &Look) -> Result<(), AllocError>
     ensures { OnOk result (out.new.items ≡ out.old.items ++ numbers_members look.entry.now) }
 {
-    push_number_member(out, "era", look.era)?;
     push_number_member(out, "generation", look.generation)?;
     push_totals(out, &look.totals)?;
     push_number_member(out, "full", look.totals.full)?;

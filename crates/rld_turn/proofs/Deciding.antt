@@ -1,14 +1,13 @@
 -- The decisions of a batch, move by move.
 use Rattle.std.proofs.Common.{◌≡◌, List, [], ◌∷◌, ◌++◌, length, refl, ap, ◌∙◌}
 use Rattle.std.specs.Prelude.{Some, None, Ok, Err}
-use Rattle.rsl_shard.specs.Restep.{BooksSeen}
 use Rattle.rsl_shard.specs.declared.moved.Move.{Move}
-use Rattle.rld_books.specs.Server.{decision_in, decisions_of, journal_of, replay, server_after}
+use Rattle.rld_books.specs.Server.{ServerSeen, decision_in, decisions_of, journal_of, replay, server_after}
 use Rattle.rld_turn.specs.Ended.{decision_at}
 use Rattle.rld_turn.specs.Recorded.{HasDecided, IsOf, Outcome, books_before, decisions_in, is_recorded, recorded_in}
 
 -- the decision on a move is that of the books at that point
-pub decided_at : (begun : List BooksSeen) (before : List Move) (moved : Move) (after : List Move)
+pub decided_at : (begun : ServerSeen) (before : List Move) (moved : Move) (after : List Move)
     → decision_at (decisions_of begun (before ++ moved ∷ after)) (length before)
     ≡ decision_in (replay begun before) moved
 unfolding journal_of replay

@@ -19,16 +19,15 @@ use Rattle.rsl_event.specs.declared.meaning.Meaning.{Meaning}
 use Rattle.rsl_event.specs.declared.meaning.Meaning.TheVariants as Mean
 use Rattle.rsl_event.specs.declared.meaning.Port.{Port}
 use Rattle.rsl_event.specs.declared.preparation.Detailed.{Detailed}
-use Rattle.rld_turn.specs.Received.{Received, taken_by}
-use Rattle.rld_turn.specs.declared.peer_port.PeerDatagram.{PeerDatagram}
 use Rattle.rsl_shard.specs.declared.moved.Move.{Move}
+use Rattle.rsl_port.specs.Told.{Received, datagram_of, taken_by}
 use Rattle.rld_turn.specs.Ended.{CanEnd, HasPlace}
 use Rattle.rsl_wire.specs.Packet.{packet_of}
 use Rattle.rsl_wire.specs.Seen.{fields_of}
 use Rattle.rld_turn.specs.Entered.{AreEntered, HasAdded, HasGathered, IsEntered, IsLast, IsMadeOf, IsRequest}
 use Rattle.rld_turn.specs.Moves.{move_of}
 use Rattle.rld_turn.specs.Recorded.{HasCount}
-use Rattle.rld_turn.specs.Present.{ServiceSeen, origin_of, peer_datagram}
+use Rattle.rld_turn.specs.Present.{PeerDatagram, ServiceSeen, origin_of}
 use Rattle.rld_turn.specs.declared.origin.Origin.{Origin}
 use Rattle.rld_turn.specs.declared.request.Entry.{Entry}
 use Rattle.rld_turn.specs.declared.request.Entry.TheVariants.{Dropped, Refused, Bare, Moved}
@@ -74,20 +73,20 @@ none_gathered service port moment Tells taken queue batch no_entry no_move =
 
 -- one datagram more was
 pub gathered_more : (service : ServiceSeen) (port : Port) (moment : ℕ) (Told Tells : Type 0)
-    (len : ℕ) (peer : SocketAddr) (received : Received) (buffer : List ℕ) (entry : Entry)
+    (len : ℕ) (peer : SocketAddr) (received : Received SocketAddr) (buffer : List ℕ) (entry : Entry)
     (taken_old taken_mid taken_new : List PeerDatagram) (queue_mid queue_new : List Entry)
     (mid new : List Move) → received ≡ Ok (Some (len, peer)) → (Tells → Told)
     → HasGathered service port moment Told taken_old taken_mid queue_mid mid
-    → IsEntered service port moment (peer_datagram peer (take len buffer)) entry mid new
+    → IsEntered service port moment (datagram_of peer (take len buffer)) entry mid new
     → queue_new ≡ queue_mid ++ entry ∷ []
     → (Tells → taken_new ≡ taken_mid ++ taken_by received buffer)
     → HasGathered service port moment Tells taken_old taken_new queue_new new
 gathered_more service port moment Told Tells len peer received buffer entry taken_old taken_mid taken_new queue_mid queue_new mid new is tells so_far entered queued taken =
-    let one : PeerDatagram = peer_datagram peer (take len buffer) in
+    let one : PeerDatagram = datagram_of peer (take len buffer) in
     subst (λ (q : List Entry). HasGathered service port moment Tells taken_old taken_new q new) (sym queued) (record {
       taken = so_far.taken ++ one ∷ [];
       entered = then_entered service port moment so_far.taken (one ∷ []) queue_mid (entry ∷ []) [] mid new so_far.entered (one_entered service port moment one entry mid new entered);
-      told = λ t. taken t ∙ ap (λ (r : Received). taken_mid ++ taken_by r buffer) is
+      told = λ t. taken t ∙ ap (λ (r : Received SocketAddr). taken_mid ++ taken_by r buffer) is
           ∙ ap (λ (q : List PeerDatagram). q ++ one ∷ []) (so_far.told (tells t)) ∙ append_assoc taken_old so_far.taken (one ∷ []);
     })
 
@@ -168,14 +167,14 @@ is_request : (service : ServiceSeen) (port : Port) (moment : ℕ) (origin : Orig
     → IsPrepared service.config detailed.prepared
     → IsMadeOf origin datagram detailed request
     → move_of service.config moment detailed.prepared.meaning ≡ moved
-    → IsRequest service port moment (peer_datagram peer datagram) moved request
+    → IsRequest service port moment (datagram_of peer datagram) moved request
 is_request service port moment origin peer datagram detailed request moved from meant packet known detail is held move =
     let same : request.origin ≡ origin_of service peer = held.origin_is ∙ from in
     let source = ap (λ (o : Origin). o.source) from in
     record {
       meant = detailed.prepared.meaning;
-      is = ap (λ (p : SocketAddr). peer_datagram p datagram) (sym (ap (λ (o : Origin). o.peer) same))
-          ∙ ap (λ (o : List ℕ). peer_datagram request.origin.peer o) (sym held.octets_are);
+      is = ap (λ (p : SocketAddr). datagram_of p datagram) (sym (ap (λ (o : Origin). o.peer) same))
+          ∙ ap (λ (o : List ℕ). datagram_of request.origin.peer o) (sym held.octets_are);
       origin = same;
       understood = ap (λ s. meaning service.config service.boot port s datagram) (sym source) ∙ meant;
       kind = held.kind;
@@ -214,7 +213,7 @@ pub added : (service : ServiceSeen) (port : Port) (moment : ℕ) (origin : Origi
     → IsPrepared service.config detailed.prepared
     → IsMadeOf origin datagram detailed request
     → HasAdded service.config moment detailed.prepared.meaning request entry old new
-    → IsEntered service port moment (peer_datagram peer datagram) entry old new
+    → IsEntered service port moment (datagram_of peer datagram) entry old new
 added service port moment origin peer datagram detailed request (Dropped from cause) old new so meant packet known detail is held added_so = absurd added_so
 added service port moment origin peer datagram detailed request (Refused from) old new so meant packet known detail is held (same, left) = (
   same ∙ held.origin_is ∙ so,
@@ -240,7 +239,7 @@ added service port moment origin peer datagram detailed request (Moved other pla
 pub refused : (service : ServiceSeen) (port : Port) (moment : ℕ) (origin : Origin) (peer : SocketAddr) (datagram : List ℕ)
     (meant : Meaning) (old new : List Move) → origin ≡ origin_of service peer
     → meaning service.config service.boot port origin.source datagram ≡ Ok meant → new ≡ old
-    → IsEntered service port moment (peer_datagram peer datagram) (Refused origin) old new
+    → IsEntered service port moment (datagram_of peer datagram) (Refused origin) old new
 refused service port moment origin peer datagram meant old new so is same = (
   so,
   record {
@@ -259,7 +258,7 @@ takes (Err cause) can = absurd can
 pub unprepared : (service : ServiceSeen) (port : Port) (moment : ℕ) (origin : Origin) (peer : SocketAddr) (datagram : List ℕ)
     (cause : Drop) (old new : List Move) → origin ≡ origin_of service peer → cause ≡ drops.NoMemory
     → Fails cause (meaning service.config service.boot port origin.source datagram) → new ≡ old
-    → IsEntered service port moment (peer_datagram peer datagram) (Refused origin) old new
+    → IsEntered service port moment (datagram_of peer datagram) (Refused origin) old new
 unprepared service port moment origin peer datagram cause old new so is fails same =
     let defined = meaning service.config service.boot port origin.source datagram in
     let found = takes defined (subst (λ (d : Drop). Fails d defined) is fails) in

@@ -9,10 +9,8 @@ use Rattle.rsl_event.specs.declared.event.Decision.{Decision}
 use Rattle.rsl_event.specs.declared.event.Decision.TheVariants.{Done}
 use Rattle.rsl_event.specs.declared.meaning.Port.{Port}
 use Rattle.rsl_event.specs.declared.words.Said.{Said}
-use Rattle.rld_turn.specs.declared.peer_port.PeerDatagram.{PeerDatagram}
-use Rattle.rsl_shard.specs.Restep.{BooksSeen}
 use Rattle.rsl_shard.specs.declared.moved.Move.{Move}
-use Rattle.rld_books.specs.Server.{decision_in, decisions_of, replay}
+use Rattle.rld_books.specs.Server.{ServerSeen, decision_in, decisions_of, replay}
 use Rattle.rld_turn.proofs.Deciding.{decided_at}
 use Rattle.rld_turn.proofs.Entering.{goes_on}
 use Rattle.rld_turn.proofs.Telling.{more_told, none_told, same_told}
@@ -24,7 +22,7 @@ use Rattle.rld_turn.specs.Recorded.{HasDecided, is_recorded}
 use Rattle.rsl_wire.specs.Packet.{packet_of}
 use Rattle.rld_turn.specs.Subject.{subject_in}
 use Rattle.rld_turn.specs.Told.{HasTold, IsSentAs, Told, told_of}
-use Rattle.rld_turn.specs.Present.{ServiceSeen, meaning_of, origin_of, source_of}
+use Rattle.rld_turn.specs.Present.{PeerDatagram, ServiceSeen, meaning_of, origin_of, source_of}
 use Rattle.rld_turn.specs.Turned.{IsAnsweredBy, Turned, bare_told, request_told, NoneYet, ThenDropped, ThenRefused, ThenUnrecorded, ThenBare, ThenAnswered}
 use Rattle.rld_turn.specs.declared.end.End.{End}
 use Rattle.rld_turn.specs.declared.end.End.TheVariants as ends
@@ -36,7 +34,7 @@ use Rattle.rld_turn.specs.declared.request.Request.{Request}
 
 -- what was answered of a batch, and the entries that are left of it
 pub record AreAnswered (service : ServiceSeen) (port : Port) (Tells : Type 0) (moment : ℕ)
-    (decisions : Option (List Decision)) (begun : List BooksSeen) (taken : List PeerDatagram)
+    (decisions : Option (List Decision)) (begun : ServerSeen) (taken : List PeerDatagram)
     (moves : List Move) (left : List Entry) (old new : List PeerDatagram)
     (knew knows : List Told → Type 0) : Type 0 where
   pub told : List Told
@@ -51,7 +49,7 @@ pub record AreAnswered (service : ServiceSeen) (port : Port) (Tells : Type 0) (m
   pub turned : Turned service port moment (is_recorded decisions) begun told done batch sent
 
 -- the answer to what waits, with the decision of these books
-answered : (service : ServiceSeen) (port : Port) (moment : ℕ) (books : List BooksSeen) (one : PeerDatagram)
+answered : (service : ServiceSeen) (port : Port) (moment : ℕ) (books : ServerSeen) (one : PeerDatagram)
     (moved : Option Move) (request : Request) (decision : Decision) (end : End)
     → IsRequest service port moment one moved request → decision ≡ decided books moved
     → IsSentAs (said_to request.kind decision) end
@@ -74,7 +72,7 @@ answered service port moment books one moved request decision end waits is ended
 }
 
 -- by equal lists
-lists : (service : ServiceSeen) (port : Port) (moment : ℕ) (recorded : Bool) (begun : List BooksSeen)
+lists : (service : ServiceSeen) (port : Port) (moment : ℕ) (recorded : Bool) (begun : ServerSeen)
     (told heard : List Told) (taken : List PeerDatagram) (batch others : List Move) (sent more : List PeerDatagram)
     → heard ≡ told → others ≡ batch → more ≡ sent
     → Turned service port moment recorded begun told taken batch sent
@@ -98,7 +96,7 @@ told_of_request service port moment told one moved request end other waits is =
     (ap (λ (s : Subject). Some s) waits.subject ∙ sym (ap subject_in waits.understood)) is
 
 -- the decision on the move of an entry is that of the books at that point
-decided_by : (service : ServiceSeen) (port : Port) (moment : ℕ) (begun : List BooksSeen)
+decided_by : (service : ServiceSeen) (port : Port) (moment : ℕ) (begun : ServerSeen)
     (batch next moves : List Move) (rest : List PeerDatagram) (others : List Entry)
     (found : List Decision) (place : ℕ) (moved : Move) → found ≡ decisions_of begun moves
     → place ≡ length batch → next ≡ batch ++ moved ∷ []
@@ -114,7 +112,7 @@ decided_by service port moment begun batch next moves rest others found place mo
 
 -- a datagram more ended
 turned_more : (service : ServiceSeen) (port : Port) (moment : ℕ) (decisions : Option (List Decision))
-    (begun : List BooksSeen) (told : List Told) (done rest : List PeerDatagram) (batch next moves : List Move)
+    (begun : ServerSeen) (told : List Told) (done rest : List PeerDatagram) (batch next moves : List Move)
     (sent : List PeerDatagram) (one : PeerDatagram) (entry : Entry) (others : List Entry) (end : End)
     → HasDecided begun moves decisions → IsEndOf decisions entry end
     → IsEntered service port moment one entry batch next
@@ -190,7 +188,7 @@ none_answered service port Tells decisions entries batch old knows = record {
 
 -- one more is answered
 pub one_answered : (service : ServiceSeen) (port : Port) (Tells_then Tells : Type 0) (moment : ℕ) (decisions : Option (List Decision))
-    (begun : List BooksSeen) (taken : List PeerDatagram) (moves : List Move) (entry : Entry) (left others : List Entry)
+    (begun : ServerSeen) (taken : List PeerDatagram) (moves : List Move) (entry : Entry) (left others : List Entry)
     (end : End) (old mid new : List PeerDatagram) (knew between knows : List Told → Type 0)
     → left ≡ entry ∷ others → HasDecided begun moves decisions → IsEndOf decisions entry end
     → (Tells → Tells_then) → (Tells → new ≡ mid ++ sent_by service decisions entry)

@@ -2,21 +2,20 @@
 use Rattle.std.specs.Prelude.{◌≡◌, ℕ, List, [], ◌++◌, Option}
 use Rattle.rsl_event.specs.declared.event.Decision.{Decision}
 use Rattle.rsl_event.specs.declared.meaning.Port.{Port}
-use Rattle.rsl_shard.specs.Restep.{BooksSeen}
+use Rattle.rld_books.specs.Server.{ServerSeen}
 use Rattle.rsl_shard.specs.declared.moved.Move.{Move}
 use Rattle.rld_turn.specs.Entered.{AreEntered}
 use Rattle.rld_turn.specs.Recorded.{HasDecided, is_recorded}
 use Rattle.rld_turn.specs.Told.{HasTold, Told}
-use Rattle.rld_turn.specs.Present.{ServiceSeen}
+use Rattle.rld_turn.specs.Present.{PeerDatagram, ServiceSeen}
 use Rattle.rld_turn.specs.Turned.{Turned}
-use Rattle.rld_turn.specs.declared.peer_port.PeerDatagram.{PeerDatagram}
 use Rattle.rld_turn.specs.declared.request.Entry.{Entry}
 
 -- what entries are of: datagrams, and moves on which these books decided, if they are recorded
 pub record Batch (service : ServiceSeen) (port : Port) (decisions : Option (List Decision))
     (entries : List Entry) : Type 0 where
   pub moment : ℕ
-  pub begun : List BooksSeen
+  pub begun : ServerSeen
   pub taken : List PeerDatagram
   pub moves : List Move
   pub entered : AreEntered service port moment taken entries [] moves

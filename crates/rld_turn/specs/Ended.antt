@@ -8,12 +8,12 @@ use Rattle.rsl_event.specs.declared.event.Decision.TheVariants.{Done}
 use Rattle.rsl_event.specs.declared.meaning_kind.MeaningKind.{MeaningKind}
 use Rattle.rsl_wire.specs.Packet.{Fields, packet_of}
 use Rattle.rsl_wire.specs.declared.packet.WireFault.{WireFault}
+use Rattle.rsl_port.specs.Told.{datagram_of}
 use Rattle.rld_turn.specs.Entered.{CanAnswer}
 use Rattle.rld_turn.specs.Told.{IsSentAs, Told, told_of}
-use Rattle.rld_turn.specs.Present.{ServiceSeen, peer_datagram}
+use Rattle.rld_turn.specs.Present.{PeerDatagram, ServiceSeen}
 use Rattle.rld_turn.specs.declared.end.End.{End}
 use Rattle.rld_turn.specs.declared.end.End.TheVariants as ends
-use Rattle.rld_turn.specs.declared.peer_port.PeerDatagram.{PeerDatagram}
 use Rattle.rld_turn.specs.declared.request.Entry.{Entry}
 use Rattle.rld_turn.specs.declared.request.Entry.TheVariants.{Dropped, Refused, Bare, Moved}
 use Rattle.rld_turn.specs.declared.request.Request.{Request}
@@ -28,7 +28,7 @@ answer_if service (Err fault) client kind decision = []
 -- the answer to a request, to its peer
 abbrev pub reply_of : ServiceSeen → Request → Decision → PeerDatagram
 reply_of service request decision =
-    peer_datagram request.origin.peer
+    datagram_of request.origin.peer
     (answer_if service (packet_of request.octets.items) request.client request.kind decision)
 
 -- the decision at a place

@@ -9,12 +9,12 @@ use Rattle.rsl_event.specs.declared.meaning.Port.{Port}
 use Rattle.rsl_event.specs.declared.preparation.Detailed.{Detailed}
 use Rattle.rsl_shard.specs.declared.moved.Move.{Move}
 use Rattle.rsl_wire.specs.Packet.{Fields, packet_of}
+use Rattle.rsl_port.specs.Told.{datagram_of}
 use Rattle.rld_turn.specs.Moves.{move_of}
-use Rattle.rld_turn.specs.Present.{ServiceSeen, meaning_of, origin_of, peer_datagram, source_of}
+use Rattle.rld_turn.specs.Present.{PeerDatagram, ServiceSeen, meaning_of, origin_of, source_of}
 use Rattle.rld_turn.specs.Subject.{subject_of}
 use Rattle.rld_turn.specs.Turned.{IsRefused}
 use Rattle.rld_turn.specs.declared.origin.Origin.{Origin}
-use Rattle.rld_turn.specs.declared.peer_port.PeerDatagram.{PeerDatagram}
 use Rattle.rld_turn.specs.declared.request.Entry.{Entry}
 use Rattle.rld_turn.specs.declared.request.Entry.TheVariants.{Dropped, Refused, Bare, Moved}
 use Rattle.rld_turn.specs.declared.request.Request.{Request}
@@ -42,7 +42,7 @@ pub record CanAnswer (config : Configuration) (request : Request) : Type 0 where
 pub record IsRequest (service : ServiceSeen) (port : Port) (moment : ℕ) (taken : PeerDatagram)
     (moved : Option Move) (request : Request) : Type 0 where
   pub meant : Meaning
-  pub is : taken ≡ peer_datagram request.origin.peer request.octets.items
+  pub is : taken ≡ datagram_of request.origin.peer request.octets.items
   pub origin : request.origin ≡ origin_of service taken.peer
   pub understood : meaning_of service port taken ≡ Ok meant
   pub kind : request.kind ≡ kind_of meant

@@ -1,5 +1,4 @@
 pub mod Present
-pub mod Received
 pub mod Moves
 pub mod Recorded
 pub mod Subject

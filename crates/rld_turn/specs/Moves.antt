@@ -5,13 +5,12 @@ use Rattle.rsl_event.specs.declared.event.Decision.{Decision}
 use Rattle.rsl_event.specs.declared.event.Decision.TheVariants.{Done}
 use Rattle.rsl_event.specs.declared.meaning.Meaning.{Meaning}
 use Rattle.rsl_shard.specs.Moves.{moves_of}
-use Rattle.rsl_shard.specs.Restep.{BooksSeen}
 use Rattle.rsl_shard.specs.declared.moved.Move.{Move}
 use Rattle.rsl_shard.specs.declared.moves.Moves.{Moves}
 use Rattle.rsl_shard.specs.declared.moves.Moves.TheVariants.{Nothing, One, Each}
-use Rattle.rld_books.specs.Server.{decision_in}
+use Rattle.rld_books.specs.Server.{ServerSeen, decision_in}
 
--- the one move that these make in the log of all shards: a restart is one sweep there
+-- the one move that these make in the log: a restart is one sweep there
 abbrev pub in_log : Moves → Option Move
 in_log Nothing = None
 in_log (One shard moved) = Some moved
@@ -22,6 +21,6 @@ abbrev pub move_of : Configuration → (moment : ℕ) → Meaning → Option Mov
 move_of config moment meant = in_log (moves_of config moment meant)
 
 -- the decision of the books on a meaning with this move
-abbrev pub decided : List BooksSeen → Option Move → Decision
+abbrev pub decided : ServerSeen → Option Move → Decision
 decided books None = Done
 decided books (Some moved) = decision_in books moved

@@ -10,8 +10,8 @@ use Rattle.rsl_event.specs.declared.event.Source.{Source}
 use Rattle.rsl_event.specs.declared.meaning.Dropped.{Dropped}
 use Rattle.rsl_event.specs.declared.meaning.Meaning.{Meaning}
 use Rattle.rsl_event.specs.declared.meaning.Port.{Port}
+use Rattle.rsl_port.specs.declared.datagram_port.Datagram.{Datagram}
 use Rattle.rld_turn.specs.declared.origin.Origin.{Origin}
-use Rattle.rld_turn.specs.declared.peer_port.PeerDatagram.{PeerDatagram}
 use Rattle.rld_turn.specs.declared.present.Present.{Present}
 
 -- what the clauses see of it: accounts and clients, the networks that stand for clients, the boot
@@ -42,8 +42,9 @@ source_of service peer = record {
 abbrev pub origin_of : ServiceSeen → SocketAddr → Origin
 origin_of service peer = record { peer = peer; source = source_of service peer }
 
-abbrev pub peer_datagram : SocketAddr → (octets : List ℕ) → PeerDatagram
-peer_datagram peer octets = record { peer = peer; octets = octets }
+-- a datagram, with its peer
+abbrev pub PeerDatagram : Type 0
+PeerDatagram = Datagram SocketAddr
 
 -- the meaning of a datagram on a port
 abbrev pub meaning_of : ServiceSeen → Port → PeerDatagram → Result Meaning Dropped

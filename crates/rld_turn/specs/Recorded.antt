@@ -1,9 +1,8 @@
 -- What became of a batch, and what it made of the books.
 use Rattle.std.specs.Prelude.{◌≡◌, List, [], length, Bool, true, false, Option, Some, None, Result, Ok, Err}
 use Rattle.rsl_event.specs.declared.event.Decision.{Decision}
-use Rattle.rsl_shard.specs.Restep.{BooksSeen}
 use Rattle.rsl_shard.specs.declared.moved.Move.{Move}
-use Rattle.rld_books.specs.Server.{decisions_of}
+use Rattle.rld_books.specs.Server.{ServerSeen, decisions_of}
 use Rattle.rld_store.specs.Recorded.{AreDecided, RecordedSeen}
 use Rattle.rld_store.specs.declared.fault.RecordFault.{RecordFault}
 
@@ -35,7 +34,7 @@ IsOf batch None = Unit {0}
 IsOf batch (Some recorded) = (recorded.batch ≡ batch) × AreDecided recorded
 
 -- the books before the batch, if it is recorded
-abbrev pub books_before : Option RecordedSeen → List BooksSeen
+abbrev pub books_before : Option RecordedSeen → ServerSeen
 books_before None = []
 books_before (Some recorded) = recorded.before
 
@@ -45,6 +44,6 @@ HasCount None batch = Unit {0}
 HasCount (Some decisions) batch = length decisions ≡ length batch
 
 -- these decisions are those of the books
-abbrev pub HasDecided : (begun : List BooksSeen) → (batch : List Move) → Option (List Decision) → Type 0
+abbrev pub HasDecided : (begun : ServerSeen) → (batch : List Move) → Option (List Decision) → Type 0
 HasDecided begun batch None = Unit {0}
 HasDecided begun batch (Some decisions) = decisions ≡ decisions_of begun batch

@@ -8,19 +8,17 @@ use Rattle.rsl_event.specs.declared.meaning.Dropped.{Dropped}
 use Rattle.rsl_event.specs.declared.meaning.Meaning.{Meaning}
 use Rattle.rsl_event.specs.declared.meaning.Port.{Port}
 use Rattle.rsl_port.specs.Shown.{HasShown}
-use Rattle.rsl_shard.specs.Restep.{BooksSeen}
 use Rattle.rsl_shard.specs.declared.moved.Move.{Move}
 use Rattle.rsl_wire.specs.Packet.{Fields, packet_of}
-use Rattle.rld_books.specs.Server.{replay}
+use Rattle.rld_books.specs.Server.{ServerSeen, replay}
 use Rattle.rld_store.specs.Recorded.{RecordedSeen}
 use Rattle.rld_turn.specs.Moves.{decided, move_of}
-use Rattle.rld_turn.specs.Present.{ServiceSeen, meaning_of, origin_of, source_of}
+use Rattle.rld_turn.specs.Present.{PeerDatagram, ServiceSeen, meaning_of, origin_of, source_of}
 use Rattle.rld_turn.specs.Recorded.{IsOf, books_before, is_recorded}
 use Rattle.rld_turn.specs.Subject.{subject_in}
 use Rattle.rld_turn.specs.Told.{HasTold, IsSentAs, Told, told_of}
 use Rattle.rld_turn.specs.declared.end.End.{End}
 use Rattle.rld_turn.specs.declared.end.End.TheVariants as ends
-use Rattle.rld_turn.specs.declared.peer_port.PeerDatagram.{PeerDatagram}
 
 -- what a watcher learns of a datagram of which nothing but its origin is kept
 abbrev pub bare_told : ServiceSeen → PeerDatagram → End → Told
@@ -47,7 +45,7 @@ pub record IsUnrecorded (service : ServiceSeen) (port : Port) (moment : ℕ) (ta
 
 -- a datagram has a meaning with this move, or with none, and this is the answer to it, with the
 -- decision of these books, to its peer; so it ended
-pub record IsAnsweredBy (service : ServiceSeen) (port : Port) (moment : ℕ) (books : List BooksSeen)
+pub record IsAnsweredBy (service : ServiceSeen) (port : Port) (moment : ℕ) (books : ServerSeen)
     (taken : PeerDatagram) (moved : Option Move) (sent : PeerDatagram) (end : End) : Type 0 where
   pub fields : Fields
   pub client : ℕ
@@ -67,7 +65,7 @@ pub record IsAnsweredBy (service : ServiceSeen) (port : Port) (moment : ℕ) (bo
 -- recorded or it is not: a datagram with a move is answered only if it is, by the books when the
 -- batch began and the moves before its own.
 pub data Turned (service : ServiceSeen) (port : Port) (moment : ℕ) (recorded : Bool)
-    (begun : List BooksSeen)
+    (begun : ServerSeen)
     : (told : List Told) → (taken : List PeerDatagram) → (batch : List Move) → (sent : List PeerDatagram)
     → Type 0 where
   NoneYet : Turned service port moment recorded begun [] [] [] []

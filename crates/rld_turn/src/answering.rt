@@ -4,6 +4,7 @@ ghost use Rattle.std.specs.Prelude.{◌≡◌, ◌≤◌, ◌<◌, [], ◌∷◌
 ghost use Rattle.std.specs.List.{AllByRecursion};
 ghost use Rattle.rsl_accounts.specs.Configuration.{client_number};
 ghost use Rattle.rsl_event.specs.Answer.{said_to};
+ghost use Rattle.rsl_port.specs.Told.{datagram_of};
 ghost use Rattle.rld_turn.specs.Answered.{Batch, HasAnswered};
 ghost use Rattle.rld_turn.specs.Ended.{
   CanEnd,
@@ -16,14 +17,13 @@ ghost use Rattle.rld_turn.specs.Ended.{
   told_by_request,
 };
 ghost use Rattle.rld_turn.specs.Entered.{CanAnswer};
-ghost use Rattle.rld_turn.specs.Present.{peer_datagram, service_of};
+ghost use Rattle.rld_turn.specs.Present.{service_of};
 ghost use Rattle.rld_turn.specs.Recorded.{decisions_in};
 ghost use Rattle.rld_turn.specs.Told.{HasTold, IsSentAs, told_of};
 ghost use Rattle.rld_turn.specs.declared.end.End.TheVariants as ends;
 
 use crate::end::End;
 use crate::origin::Origin;
-use crate::peer_port::PeerPort;
 use crate::present::Present;
 use crate::receiver::Receiver;
 use crate::request::{Entry, Request};
@@ -31,14 +31,14 @@ use crate::room::{Room, Rooms};
 use crate::watch::{Ended, Watch};
 use rld_store::{RecordFault, Recorded};
 use rsl_event::{Decision, Detail, Said, reply_to};
-use rsl_port::PortFault;
+use rsl_port::{DatagramPort, PortFault};
 use rsl_wire::read;
 use std::net::SocketAddr;
 
 impl Receiver {
     /// Answers the datagrams that were gathered, in the order in which they were taken, and notes how each ended.
     /// Their moves are recorded so, or they have none. One that has a move is answered only if they are recorded.
-    pub fn answer<P: PeerPort, W: Watch>(
+    pub fn answer<P: DatagramPort<SocketAddr>, W: Watch>(
         &mut self,
         present: &Present<'_>,
         recorded: &Result<Option<Recorded>, RecordFault>,
@@ -72,7 +72,7 @@ impl Receiver {
 
 impl Present<'_> {
     /// Ends an entry of a batch that is recorded so, and notes how.
-    fn end<P: PeerPort, W: Watch>(
+    fn end<P: DatagramPort<SocketAddr>, W: Watch>(
         &self,
         entry: Entry,
         recorded: &Result<Option<Recorded>, RecordFault>,
@@ -170,7 +170,7 @@ impl Present<'_> {
     }
 
     /// Sends the answer to a request, with this decision, to its peer, and notes how that ended.
-    fn send<P: PeerPort, W: Watch>(
+    fn send<P: DatagramPort<SocketAddr>, W: Watch>(
         &self,
         request: Request,
         decision: Decision,
@@ -236,7 +236,12 @@ impl Present<'_> {
 }
 
 /// Sends an answer with this word by the port, and gives how that ended.
-fn hand_over<P: PeerPort>(datagrams: &mut P, reply: &[u8], to: SocketAddr, said: Said) -> End
+fn hand_over<P: DatagramPort<SocketAddr>>(
+    datagrams: &mut P,
+    reply: &[u8],
+    to: SocketAddr,
+    said: Said,
+) -> End
     ensures end { IsSentAs said result }
     ensures contents { P.contents datagrams.new ≡ P.contents datagrams.old }
     ensures telling { P.tells datagrams.new ≡ true → P.tells datagrams.old ≡ true }
@@ -244,7 +249,7 @@ fn hand_over<P: PeerPort>(datagrams: &mut P, reply: &[u8], to: SocketAddr, said:
     ensures room { P.tells datagrams.new ≡ true → P.room datagrams.new ≡ P.room datagrams.old }
     ensures down { P.tells datagrams.new ≡ true → P.is_down datagrams.new ≡ P.is_down datagrams.old }
     ensures sent { P.tells datagrams.new ≡ true → P.sent datagrams.new ≡ P.sent datagrams.old
-        ++ peer_datagram to reply.now ∷ [] }
+        ++ datagram_of to reply.now ∷ [] }
 {
     match datagrams.send(reply, to) {
         Ok(()) => End::Answered(said),

@@ -2,18 +2,18 @@
 
 ghost use Rattle.std.specs.Prelude.{◌≡◌, ◌≤◌, min, length, true, is_err};
 ghost use Rattle.rsl_event.specs.Prepared.{HasAccount, HasOwnAct};
+ghost use Rattle.rsl_port.specs.Told.{datagram_of};
 ghost use Rattle.rld_turn.specs.Entered.{HasAdded, HasGathered, HasPushed, IsEntered};
 ghost use Rattle.rld_turn.specs.Moves.{in_log};
-ghost use Rattle.rld_turn.specs.Present.{peer_datagram, service_of};
+ghost use Rattle.rld_turn.specs.Present.{service_of};
 
-use crate::peer_port::PeerPort;
 use crate::present::Present;
 use crate::receiver::{MAX_BATCH, Receiver};
 use crate::request::{Entry, Request};
 use crate::room::Rooms;
 use rsl_accounts::Config;
 use rsl_event::{Dropped, Meaning, Port, prepare_in_detail};
-use rsl_port::PortFault;
+use rsl_port::{DatagramPort, PortFault};
 use rsl_shard::{Move, Moves};
 use std::net::SocketAddr;
 
@@ -39,7 +39,7 @@ impl Receiver {
     /// Takes what waits at a port, without waiting for more: at most 64 datagrams of up to 4,096 octets. They wait
     /// for their answers, and what waited before is forgotten. Gives the moves of those that are neither dropped nor
     /// refused memory, each at this moment.
-    pub fn gather<P: PeerPort>(
+    pub fn gather<P: DatagramPort<SocketAddr>>(
         &mut self,
         present: &Present<'_>,
         moment: u64,
@@ -100,7 +100,7 @@ impl Present<'_> {
     /// its answer is allocated here.
     fn enter(&self, arrival: Arrival<'_>, rooms: &mut Rooms, batch: &mut Vec<Move>) -> Entry
         ensures { IsEntered (service_of self.now) arrival.entry.port arrival.entry.moment
-            (peer_datagram arrival.entry.peer arrival.entry.datagram.now) result
+            (datagram_of arrival.entry.peer arrival.entry.datagram.now) result
             batch.old.items batch.new.items }
     {
         let Arrival {
@@ -154,7 +154,7 @@ fn add(
     }
 }
 
-/// The one move that these make in the log of all shards.
+/// The one move that these make in the log.
 fn logged(moves: Moves) -> Option<Move>
     ensures { result ≡ in_log moves }
 {

@@ -23,7 +23,6 @@ mod answering;
 mod end;
 mod gathering;
 mod origin;
-mod peer_port;
 mod present;
 mod receiver;
 mod request;
@@ -37,7 +36,6 @@ mod watch;
 pub use end::End;
 pub use gathering::Gathered;
 pub use origin::Origin;
-pub use peer_port::{PeerDatagram, PeerPort};
 pub use present::Present;
 pub use receiver::{MAX_BATCH, Receiver};
 pub use rld_store::{RecordFault, Recorded};
@@ -45,3 +43,6 @@ pub use status_reply::status_answer;
 pub use status_request::STATUS_SERVER;
 pub use subject::Subject;
 pub use watch::{Ended, Watch};
+
+/// A datagram, with the peer that it came from or goes to.
+pub type PeerDatagram = rsl_port::Datagram<std::net::SocketAddr>;

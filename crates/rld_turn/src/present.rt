@@ -14,26 +14,26 @@ pub struct Present<'a> {
     pub networks: &'a [Network],
     /// The boot number of its Classes.
     pub boot: u64,
-    /// The era of these accounts: a turn is recorded in this one, or not at all.
-    pub era: u64,
+    /// The number of their table: a turn is recorded while it is present, or not at all.
+    pub table: u64,
     /// An address that no client has, for peers that stand for no client.
     pub(crate) nobody: [u8; 4],
     ghost unassigned: { client_number config.now nobody ≡ None },
 }
 
 impl<'a> Present<'a> {
-    /// The present accounts, networks, boot number and era.
-    pub fn new(config: &'a Config, networks: &'a [Network], boot: u64, era: u64) -> Present<'a>
+    /// The present accounts, networks, boot number and number of the table.
+    pub fn new(config: &'a Config, networks: &'a [Network], boot: u64, table: u64) -> Present<'a>
         ensures config { result.config.now ≡ config.entry.now }
         ensures networks { result.networks.now ≡ networks.entry.now }
         ensures boot { result.boot ≡ boot }
-        ensures era { result.era ≡ era }
+        ensures table { result.table ≡ table }
     {
         Present {
             config,
             networks,
             boot,
-            era,
+            table,
             nobody: unassigned_address(config),
         }
     }

@@ -384,7 +384,7 @@ radlimitd lines FILE..
 Prints each change that these logs of a state folder or of its archive have, with what was decided. It only reads, and may
 run beside the server.
 
-    radlimitd lines /var/lib/radlimit/log-1-1
+    radlimitd lines /var/lib/radlimit/log-1
 
 Exit status: 0 all is printed; 1 a file cannot be read, or is damaged, and its first wrong place is named; 2 standard output
 cannot be written; 3 no memory.

@@ -31,11 +31,11 @@ octets_from len (Some source) = Some (len, source)
 octets_from len None = None
 
 -- no datagram if the fault passes, and else a fault of the port
-abbrev pub IsFailed : (passing : Bool) → Received → Type 0
+abbrev pub IsFailed : (passing : Bool) → Received Source → Type 0
 IsFailed true received = received ≡ Ok None
 IsFailed false received = is_err received ≡ true
 
 -- a port gives what a read gave, into a buffer of `room` octets
-abbrev pub IsReception : (room : ℕ) → Result (ℕ × SocketAddr) Error → Received → Type 0
+abbrev pub IsReception : (room : ℕ) → Result (ℕ × SocketAddr) Error → Received Source → Type 0
 IsReception room (Ok read) received = received ≡ Ok (octets_from (min read.0 room) (source_in read.1))
 IsReception room (Err error) received = IsFailed (is_passing (error_kind error)) received

@@ -1,6 +1,6 @@
 -- What a port counts of its own calls: how many there were, how many failed and which went astray.
 -- What it tells of its datagrams, if it tells them.
-use Rattle.std.specs.Prelude.{ℕ, ◌+◌, ◌^◌, ◌<◌, ◌==◌, Bool, true, false, ◌&&◌, cond, List, [], ◌∷◌, take, Option, Some, None, Result, Ok, Err, is_err}
+use Rattle.std.specs.Prelude.{ℕ, ◌+◌, ◌^◌, ◌<◌, ◌==◌, Bool, false, ◌&&◌, cond, List, [], ◌∷◌, take, Option, Some, None, Result, Ok, Err, is_err}
 use Rattle.rsl_accounts.specs.Configuration.{same_octets}
 use Rattle.rsl_event.specs.declared.event.Source.{Source}
 use Rattle.rsl_port.specs.declared.datagram_port.Datagram.{Datagram}
@@ -29,12 +29,12 @@ pub record CanSend (calls : ℕ) (numbers : Numbers) : Type 0 where
   pub failed : numbers.failed_sends + calls < 2 ^ 64
   pub astray : numbers.astray + calls < 2 ^ 64
 
--- what a call of `receive` gave: a datagram's length and source, or none
-abbrev pub Received : Type 0
-Received = Result (Option (ℕ × Source)) PortFault
+-- what a call of `receive` gave: a datagram's length and peer, or none
+abbrev pub Received : (Peer : Type 0) → Type 0
+Received Peer = Result (Option (ℕ × Peer)) PortFault
 
 -- a call of `receive` is counted, and so is its failure; a datagram's source becomes the last
-abbrev pub after_receive : Received → Numbers → Numbers
+abbrev pub after_receive : Received Source → Numbers → Numbers
 after_receive (Ok (Some received)) numbers =
     record numbers { receives = numbers.receives + 1; last = Some received.1 }
 after_receive (Ok None) numbers = record numbers { receives = numbers.receives + 1 }
@@ -56,13 +56,13 @@ after_send to sent numbers = record numbers {
   astray = numbers.astray + cond (is_last to numbers.last) 0 1;
 }
 
+-- a datagram, with its peer
+abbrev pub datagram_of : {Peer : Type 0} → Peer → (octets : List ℕ) → Datagram Peer
+datagram_of peer octets = record { peer = peer; octets = octets }
+
 -- the datagram that a call of `receive` took, from what is then in the buffer
-abbrev pub taken_by : Received → (buffer : List ℕ) → List Datagram
+abbrev pub taken_by : {Peer : Type 0} → Received Peer → (buffer : List ℕ) → List (Datagram Peer)
 taken_by (Ok (Some received)) buffer =
-    record { source = received.1; octets = take received.0 buffer } ∷ []
+    datagram_of received.1 (take received.0 buffer) ∷ []
 taken_by (Ok None) buffer = []
 taken_by (Err fault) buffer = []
-
--- the datagram that a call of `send` tries
-abbrev pub datagram_of : Source → (octets : List ℕ) → Datagram
-datagram_of source octets = record { source = source; octets = octets }

@@ -3,6 +3,7 @@
 ghost use Rattle.std.specs.Prelude.{◌≡◌};
 ghost use Rattle.rsl_port.specs.Told.{CanReceive, CanSend, after_receive, after_send, no_numbers};
 
+use crate::address::Address;
 use rsl_event::Source;
 use rsl_wire::Octets;
 
@@ -10,61 +11,72 @@ use rsl_wire::Octets;
 #[derive(Clone, Copy)]
 pub struct PortFault;
 
-/// A datagram, with its source or its destination.
+/// A datagram, with the peer that it came from or goes to.
 #[derive(Drop)]
-pub struct Datagram {
+pub struct Datagram<Peer = Source> {
     /// The other side's address and port.
-    pub source: Source,
+    pub peer: Peer,
     /// The octets of the datagram.
     pub octets: Octets,
 }
 
 /// A port that datagrams come from and answers go to, such as a UDP socket.
 ///
-/// A contract sees the numbers that the port keeps of its calls; a socket, which holds a `Numbers`,
-/// reports nothing else. A port in memory also reports which datagrams it gave, which sends were
-/// tried, and the least room, in octets, of any `receive`, as long as `tells` is true.
-pub trait DatagramPort {
-    ghost use Rattle.std.specs.Prelude.{◌≡◌, ◌≤◌, ℕ, min, Bool, true, false, List, [], ◌∷◌, ◌++◌, length, IfOk, IfSome};
-    ghost use Rattle.rsl_port.specs.Told.{CanReceive, CanSend, after_receive, after_send, datagram_of, taken_by};
+/// A contract sees the numbers that the port keeps of its calls, if it counts them (`Address`); a
+/// socket, which holds a `Numbers`, reports nothing else. A port in memory also reports which
+/// datagrams it gave, which sends were tried, the least room, in octets, of any `receive`, and
+/// whether the last `receive` failed, as long as `tells` is true; and which datagrams it was made
+/// with.
+pub trait DatagramPort<Peer: Address> {
+    ghost use Rattle.std.specs.Prelude.{◌≡◌, ◌≤◌, ℕ, min, Bool, true, false, List, [], ◌∷◌, ◌++◌, length, IfOk, IfSome, is_err};
+    ghost use Rattle.rsl_port.specs.Told.{datagram_of, no_numbers, taken_by};
     ghost use Rattle.rsl_port.specs.declared.datagram_port.Datagram.{Datagram as OneDatagram};
     ghost use Rattle.rsl_port.specs.declared.datagram_port.Numbers.{Numbers as PortNumbers};
 
-    ghost numbers: { Self → PortNumbers };
+    ghost numbers: { Self → PortNumbers } = { λ _. no_numbers };
 
     ghost tells: { Self → Bool } = { λ _. false };
 
-    ghost taken: { Self → List OneDatagram } = { λ _. [] };
+    ghost contents: { Self → List (OneDatagram Peer) } = { λ _. [] };
 
-    ghost sent: { Self → List OneDatagram } = { λ _. [] };
+    ghost taken: { Self → List (OneDatagram Peer) } = { λ _. [] };
+
+    ghost sent: { Self → List (OneDatagram Peer) } = { λ _. [] };
 
     ghost room: { Self → ℕ } = { λ _. 0 };
 
-    /// Waits for a datagram for a limited time, and puts its octets at the start of the buffer.
-    /// Gives their number and the source, or `None` if none has come. A datagram longer than the
-    /// buffer is cut. It fails if the port can give no more, like a socket that the system closed.
-    /// The port's counts of its calls have to stay under 2^64 with this one.
-    fn receive(&mut self, buffer: &mut [u8]) -> Result<Option<(usize, Source)>, PortFault>
-        requires { CanReceive 1 (numbers self.old) }
+    ghost is_down: { Self → Bool } = { λ _. false };
+
+    /// Takes a datagram, if there is one or one comes within the time that the port waits, and puts
+    /// its octets at the start of the buffer. Gives their number and the peer, or `None` if there
+    /// is none. A datagram longer than the buffer is cut. It fails if the port can give no more,
+    /// like a socket that the system closed. The counts of a port that counts have to stay under
+    /// 2^64 with this call.
+    fn receive(&mut self, buffer: &mut [u8]) -> Result<Option<(usize, Peer)>, PortFault>
+        requires { Peer.can_receive (numbers self.old) }
         ensures within { IfOk result (λ received. IfSome received (λ found.
             found.0 ≤ length buffer.new)) }
-        ensures numbers { numbers self.new ≡ after_receive result (numbers self.old) }
+        ensures numbers { Peer.has_received result (numbers self.old) (numbers self.new) }
+        ensures contents { contents self.new ≡ contents self.old }
         ensures telling { tells self.new ≡ true → tells self.old ≡ true }
         ensures taken { tells self.new ≡ true →
             taken self.new ≡ taken self.old ++ taken_by result buffer.new }
         ensures sent { tells self.new ≡ true → sent self.new ≡ sent self.old }
-        ensures room { tells self.new ≡ true → room self.new ≡ min (room self.old) (length buffer.old) };
+        ensures room { tells self.new ≡ true → room self.new ≡ min (room self.old) (length buffer.old) }
+        ensures down { tells self.new ≡ true → is_down self.new ≡ is_err result };
 
-    /// Sends these octets to a source. On a fault nothing is known of what was sent. The port's
-    /// counts of its calls have to stay under 2^64 with this one.
-    fn send(&mut self, octets: &[u8], to: Source) -> Result<(), PortFault>
-        requires { CanSend 1 (numbers self.old) }
-        ensures numbers { numbers self.new ≡ after_send to result (numbers self.old) }
+    /// Sends these octets to a peer. On a fault nothing is known of what was sent. The counts of a
+    /// port that counts have to stay under 2^64 with this call.
+    fn send(&mut self, octets: &[u8], to: Peer) -> Result<(), PortFault>
+        requires { Peer.can_send (numbers self.old) }
+        ensures numbers { Peer.has_sent to result (numbers self.old) (numbers self.new) }
+        ensures contents { contents self.new ≡ contents self.old }
         ensures telling { tells self.new ≡ true → tells self.old ≡ true }
         ensures taken { tells self.new ≡ true → taken self.new ≡ taken self.old }
         ensures sent { tells self.new ≡ true →
             sent self.new ≡ sent self.old ++ datagram_of to octets.now ∷ [] }
-        ensures room { tells self.new ≡ true → room self.new ≡ room self.old };
+        ensures room { tells self.new ≡ true → room self.new ≡ room self.old }
+        ensures down { tells self.new ≡ true → is_down self.new ≡ is_down self.old };
 }
 
 /// The numbers that a port keeps of its own calls.

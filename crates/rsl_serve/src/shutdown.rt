@@ -84,7 +84,7 @@ impl Shutdown {
 }
 
 /// A port whose `receive` can be made to fail, for a port that is to give no more.
-pub(crate) trait FailingPort: DatagramPort {
+pub(crate) trait FailingPort: DatagramPort<Source> {
     ghost use Rattle.std.specs.Prelude.{◌≡◌, false, is_err, true};
     ghost use Rattle.rsl_port.specs.Told.{CanReceive, after_receive};
 
@@ -125,7 +125,7 @@ impl<'a, P: FailingPort> PairedPort<'a, P> {
     }
 }
 
-impl<P: FailingPort> DatagramPort for PairedPort<'_, P> {
+impl<P: FailingPort> DatagramPort<Source> for PairedPort<'_, P> {
     ghost numbers = { λ paired. P.numbers paired.port };
 
     ghost tells = { λ paired. P.tells paired.port };
@@ -135,6 +135,8 @@ impl<P: FailingPort> DatagramPort for PairedPort<'_, P> {
     ghost sent = { λ paired. P.sent paired.port };
 
     ghost room = { λ paired. P.room paired.port };
+
+    ghost is_down = { λ paired. P.is_down paired.port };
 
     fn receive(&mut self, buffer: &mut [u8]) -> Result<Option<(usize, Source)>, PortFault> {
         if self.shutdown.has_failed() {

@@ -8,7 +8,7 @@ ghost use Rattle.rsl_serve.specs.Served.{HasReceived};
 
 use crate::server::Server;
 use crate::{ServeFault, SystemClock};
-use rsl_event::Port;
+use rsl_event::{Port, Source};
 use rsl_service::{Counts, DatagramPort, Pass, Tally, receive};
 use std::sync::Wait;
 use std::time;
@@ -31,7 +31,7 @@ impl<L0: Tally, L1: Tally, L2: Tally, L3: Tally, R: time::Clock + Wait> Server<
     R,
 > {
     /// Lets a receiver take its turns, and then notes its end for the other workers.
-    pub(crate) fn take_turns<P: DatagramPort>(
+    pub(crate) fn take_turns<P: DatagramPort<Source>>(
         &self,
         port: Port,
         datagrams: &mut P,

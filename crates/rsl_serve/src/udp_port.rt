@@ -81,7 +81,7 @@ impl FailingPort for UdpPort {
     }
 }
 
-impl DatagramPort for UdpPort {
+impl DatagramPort<Source> for UdpPort {
     ghost numbers = { λ port. port };
 
     fn receive(&mut self, buffer: &mut [u8]) -> Result<Option<(usize, Source)>, PortFault> {

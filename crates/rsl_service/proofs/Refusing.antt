@@ -50,9 +50,9 @@ has_stopped service moment Bare fault old new stopped fewer = stopped.1
 has_stopped service moment Reject fault old new stopped fewer = stopped.1
 
 -- one whose moves met a fault, at the moment that was read for it
-pub stopped_at : (service : ServiceSeen) (port : Port) (one : Datagram) (moment : ℕ) (meant : Meaning)
+pub stopped_at : (service : ServiceSeen) (port : Port) (one : Datagram Source) (moment : ℕ) (meant : Meaning)
     (fault : ApplyFault) (old_shown new_shown : Option (List ℕ)) (old new : List Receipt)
-    → meaning service.config service.boot port one.source one.octets ≡ Ok meant
+    → meaning service.config service.boot port one.peer one.octets ≡ Ok meant
     → HasShown (moment ∷ []) old_shown new_shown → IsStopped service moment meant fault old new
     → swept_before fault < service.config.settings.shards
     → HasRefused service port one old_shown new_shown old new
@@ -67,8 +67,8 @@ stopped_at service port one moment meant fault old_shown new_shown old new is re
 }
 
 -- one that was answered, at the moment that was read for it
-pub answered_at : (service : ServiceSeen) (port : Port) (one : Datagram) (moment : ℕ)
-    (old_shown new_shown : Option (List ℕ)) (old new : List Receipt) (reply : Datagram)
+pub answered_at : (service : ServiceSeen) (port : Port) (one : Datagram Source) (moment : ℕ)
+    (old_shown new_shown : Option (List ℕ)) (old new : List Receipt) (reply : Datagram Source)
     → HasShown (moment ∷ []) old_shown new_shown
     → IsAnsweredBy service port one moment old new reply
     → HasAnswered service port one old_shown new_shown old new reply

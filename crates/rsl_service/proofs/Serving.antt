@@ -2,6 +2,7 @@
 use Rattle.std.proofs.Common.{◌≡◌, ℕ, ◌+◌, List, [], ◌∷◌, ◌++◌, append-nil, refl, sym, ap, subst, ◌∙◌, arith}
 use Rattle.std.proofs.lemmas.List.{append_assoc}
 use Rattle.rsl_event.specs.declared.meaning.Port.{Port}
+use Rattle.rsl_event.specs.declared.event.Source.{Source}
 use Rattle.rsl_service.specs.Service.{ServiceSeen}
 use Rattle.rsl_record.specs.declared.receipt.Receipt.{Receipt}
 use Rattle.rsl_port.proofs.Callers.{more_shown, none_shown}
@@ -28,14 +29,14 @@ none_served service port state = record {
 }
 
 -- one more at the end of what came since
-one_more : (old mid new since : List Datagram) (one : Datagram) → mid ≡ old ++ since
+one_more : (old mid new since : List (Datagram Source)) (one : Datagram Source) → mid ≡ old ++ since
     → new ≡ mid ++ one ∷ [] → new ≡ old ++ (since ++ one ∷ [])
 one_more old mid new since one so_far more =
     more ∙ ap (λ xs. xs ++ one ∷ []) so_far ∙ append_assoc old since (one ∷ [])
 
 -- by equal numbers of each kind
-kinds : {d r a x y z : ℕ} (service : ServiceSeen) (port : Port) (old : List Receipt) (taken : List Datagram)
-    (new : List Receipt) (sent : List Datagram) (shown : List ℕ) → d ≡ x → r ≡ y → a ≡ z
+kinds : {d r a x y z : ℕ} (service : ServiceSeen) (port : Port) (old : List Receipt) (taken : List (Datagram Source))
+    (new : List Receipt) (sent : List (Datagram Source)) (shown : List ℕ) → d ≡ x → r ≡ y → a ≡ z
     → Served service port old d r a taken new sent shown
     → Served service port old x y z taken new sent shown
 kinds {d = d} {r = r} {y = y} {z = z} service port old taken new sent shown i j k served =

@@ -1,6 +1,7 @@
 -- How a turn of a receiver ends, and what it leaves.
 use Rattle.std.specs.Prelude.{◌≡◌, ℕ, ◌+◌, Bool, true, false, List, [], ◌∷◌, ◌++◌, Option}
 use Rattle.rsl_event.specs.declared.meaning.Port.{Port}
+use Rattle.rsl_event.specs.declared.event.Source.{Source}
 use Rattle.rsl_service.specs.Service.{ServiceSeen}
 use Rattle.rsl_record.specs.declared.receipt.Receipt.{Receipt}
 use Rattle.rsl_service.specs.Counted.{IsCalled}
@@ -57,7 +58,7 @@ HasCalled Answered old new = IsCalled 1 0 1 0 old new
 HasCalled Unsent old new = IsCalled 1 0 1 1 old new
 
 -- another datagram was taken
-abbrev pub TookOne : Datagram → (old new : State) → Type 0
+abbrev pub TookOne : Datagram Source → (old new : State) → Type 0
 TookOne one old new = new.taken ≡ old.taken ++ one ∷ []
 
 -- nothing was taken, noted or sent, and the clock was not read
@@ -68,7 +69,7 @@ TookNone old new =
 
 -- a datagram was taken and dropped
 pub record TookDropped (service : ServiceSeen) (port : Port) (old new : State) : Type 0 where
-  pub one : Datagram
+  pub one : Datagram Source
   pub took : TookOne one old new
   pub unnoted : new.receipts ≡ old.receipts
   pub unsent : new.sent ≡ old.sent
@@ -77,7 +78,7 @@ pub record TookDropped (service : ServiceSeen) (port : Port) (old new : State) :
 
 -- a datagram was taken and refused
 pub record TookRefused (service : ServiceSeen) (port : Port) (old new : State) : Type 0 where
-  pub one : Datagram
+  pub one : Datagram Source
   pub shown : List ℕ
   pub took : TookOne one old new
   pub unsent : new.sent ≡ old.sent
@@ -86,8 +87,8 @@ pub record TookRefused (service : ServiceSeen) (port : Port) (old new : State) :
 
 -- a datagram was taken, and its answer tried to send
 pub record TookAnswered (service : ServiceSeen) (port : Port) (old new : State) : Type 0 where
-  pub one : Datagram
-  pub reply : Datagram
+  pub one : Datagram Source
+  pub reply : Datagram Source
   pub moment : ℕ
   pub took : TookOne one old new
   pub sends : new.sent ≡ old.sent ++ reply ∷ []
@@ -104,21 +105,21 @@ HasTurned service port Answered old new = TookAnswered service port old new
 HasTurned service port Unsent old new = TookAnswered service port old new
 
 -- what an answered datagram leaves, and a clock that was read for it
-pub record HasAnswered (service : ServiceSeen) (port : Port) (one : Datagram)
-    (old_shown new_shown : Option (List ℕ)) (old new : List Receipt) (reply : Datagram) : Type 0 where
+pub record HasAnswered (service : ServiceSeen) (port : Port) (one : Datagram Source)
+    (old_shown new_shown : Option (List ℕ)) (old new : List Receipt) (reply : Datagram Source) : Type 0 where
   pub moment : ℕ
   pub read : HasShown (moment ∷ []) old_shown new_shown
   pub answered : IsAnsweredBy service port one moment old new reply
 
 -- a datagram that was refused, and a clock that was read for it or not
-pub record HasRefused (service : ServiceSeen) (port : Port) (one : Datagram)
+pub record HasRefused (service : ServiceSeen) (port : Port) (one : Datagram Source)
     (old_shown new_shown : Option (List ℕ)) (old new : List Receipt) : Type 0 where
   pub shown : List ℕ
   pub read : HasShown shown old_shown new_shown
   pub refused : IsRefused service port one shown old new
 
 -- what an unanswered datagram leaves, by the reason
-abbrev pub IsUnanswered : ServiceSeen → Port → Unanswered → Datagram
+abbrev pub IsUnanswered : ServiceSeen → Port → Unanswered → Datagram Source
     → (old_shown new_shown : Option (List ℕ)) → (old new : List Receipt) → Type 0
 IsUnanswered service port unanswered.Dropped one old_shown new_shown old new =
     IsDropped service port one × (new ≡ old) × (new_shown ≡ old_shown)

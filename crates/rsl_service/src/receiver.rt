@@ -40,7 +40,7 @@ pub fn receive<
     L2: Tally,
     L3: Tally,
     G: Gate,
-    P: DatagramPort,
+    P: DatagramPort<Source>,
     C: Clock,
     R: Wait,
 >(
@@ -118,7 +118,7 @@ impl<L0: Tally, L1: Tally, L2: Tally, L3: Tally, G: Gate, R: Wait> Receiver<
     R,
 > {
     /// Takes a turn, with a buffer for the datagram.
-    fn turn<P: DatagramPort, C: Clock>(
+    fn turn<P: DatagramPort<Source>, C: Clock>(
         &self,
         pass: &mut Pass<L0, L1, L2, L3>,
         datagrams: &mut P,
@@ -187,7 +187,7 @@ impl<L0: Tally, L1: Tally, L2: Tally, L3: Tally, G: Gate, R: Wait> Receiver<
 
 /// Sends an answer to the source of its datagram, and gives its buffer back to the pass, whether or
 /// not it could be sent.
-fn send_back<L0: Tally, L1: Tally, L2: Tally, L3: Tally, P: DatagramPort>(
+fn send_back<L0: Tally, L1: Tally, L2: Tally, L3: Tally, P: DatagramPort<Source>>(
     pass: &mut Pass<L0, L1, L2, L3>,
     datagrams: &mut P,
     octets: Vec<u8>,

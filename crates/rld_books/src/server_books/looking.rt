@@ -11,18 +11,20 @@ use crate::server_books::ServerBooks;
 use rsl_accounts::Config;
 use rsl_book::Book;
 use rsl_session::{SavedBook, SavedLink};
-use rsl_shard::{Books, Row};
+use rsl_shard::Row;
 use rsl_wire::NoMemory;
 use std::alloc::Global;
 
-/// The rows of shards, one shard after another.
-fn rows_of(alloc: Global, shards: &[Books]) -> Result<Vec<Row>, NoMemory>
-    ensures { IfOk result (λ rows. rows.items ≡ rows_in shards.now) }
+/// The rows of the accounts of these books, in the order of their numbers.
+fn rows_of(alloc: Global, books: &[Book]) -> Result<Vec<Row>, NoMemory>
+    requires { length books.now ≤ 16384 }
+    ensures { IfOk result (λ rows. rows.items ≡ rows_in books.now) }
 {
-    let mut rows = Vec::new(alloc);
-    for shard in shards {
-        let mut some = shard.rows(alloc)?;
-        rows.append(&mut some)?;
+    let mut rows = Vec::with_capacity(alloc, books.len())?;
+    let mut account = 0;
+    for book in books {
+        rows.push(Row::of(account, book))?;
+        account += 1;
     }
     Ok(rows)
 }
@@ -42,7 +44,7 @@ impl ServerBooks {
         ensures some { IfSome result (λ book. book_in self.now account ≡ Some book.now) }
         ensures none { IfNone result (book_in self.now account ≡ None) }
     {
-        self.shards[self.index_of(account)].book(account)
+        self.list.get(account as usize)
     }
 
     /// The clock of the book of an account, or 0 if there is no such account.
@@ -67,12 +69,11 @@ impl ServerBooks {
         most
     }
 
-    /// What each account holds, shard after shard, and in each in the order of the accounts'
-    /// numbers. It fails only if memory is refused.
+    /// What each account holds, in the order of their numbers. It fails only if memory is refused.
     pub fn rows(&self, alloc: Global) -> Result<Vec<Row>, NoMemory>
         ensures { IfOk result (λ rows. rows.items ≡ rows_in self.now) }
     {
-        rows_of(alloc, &self.shards)
+        rows_of(alloc, &self.list)
     }
 
     /// The saved form of the book of an account; `None` if there is no such account. It fails only
@@ -93,7 +94,7 @@ impl ServerBooks {
         ensures { IfOk result (λ links.
             option_map (λ some. saved_links some.items) links ≡ links_in self.now account) }
     {
-        let Some(book) = self.shards[self.index_of(account)].book(account) else {
+        let Some(book) = self.book(account) else {
             return Ok(None);
         };
         let SavedBook { links, .. } = book.save(alloc)?;

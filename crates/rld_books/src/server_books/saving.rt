@@ -1,40 +1,34 @@
 //! Saving and restoring the books.
 
-ghost use Rattle.std.specs.Prelude.{◌≡◌, ◌++◌, ◌<◌, IfOk, map};
-ghost use Rattle.rld_books.specs.Saved.{IsServerOf, saved_server, seen_as_new};
-ghost use Rattle.rld_books.specs.Server.{new_server};
+ghost use Rattle.std.specs.Prelude.{◌≡◌, IfOk, map};
+ghost use Rattle.rld_books.specs.Saved.{IsServerOf, saved_server};
 ghost use Rattle.rsl_accounts.specs.Limits.{RulesFit};
 ghost use Rattle.rsl_book.specs.Restored.{saved};
 ghost use Rattle.rsl_session.specs.Saved.{saved_book};
-ghost use Rattle.rsl_shard.specs.Opening.{as_new};
-ghost use Rattle.rsl_shard.specs.Restep.{new_books};
-ghost use Rattle.rsl_shard.specs.Setup.{setup_of};
 
 use crate::blank_books::BlankBooks;
 use crate::fault::ServerFault;
 use crate::server_books::ServerBooks;
 use rsl_accounts::{Config, Rules};
 use rsl_book::Book;
-use rsl_book::laws::put_back_is_saved;
 use rsl_session::SavedBook;
-use rsl_shard::Books;
 use rsl_wire::NoMemory;
 use std::alloc::Global;
 
-/// The saved form of the books of shards, one shard after another.
-fn saved_of(alloc: Global, shards: &[Books]) -> Result<Vec<SavedBook>, NoMemory>
-    ensures { IfOk result (λ kept. map saved_book kept.items ≡ saved_server shards.now) }
+/// The saved form of books, one by one.
+#[tactic(auto, using(rsl_book::proofs::Callers::stands_steps))]
+fn saved_of(alloc: Global, books: &[Book]) -> Result<Vec<SavedBook>, NoMemory>
+    ensures { IfOk result (λ kept. map saved_book kept.items ≡ map saved books.now) }
 {
-    let mut kept = Vec::new(alloc);
-    for shard in shards {
-        let mut books = shard.save(alloc)?;
-        kept.append(&mut books)?;
+    let mut kept = Vec::with_capacity(alloc, books.len())?;
+    for book in books {
+        kept.push(book.save(alloc)?)?;
     }
     Ok(kept)
 }
 
 /// The book of an account with these rules, restored in the blank one if there is one.
-fn restored_book(
+pub(super) fn restored_book(
     alloc: Global,
     blanks: &mut BlankBooks,
     account: u32,
@@ -42,72 +36,42 @@ fn restored_book(
     kept: &SavedBook,
 ) -> Result<Book, ServerFault>
     requires { RulesFit rules }
-    ensures { IfOk result (λ book. saved book ≡ saved_book kept.now) }
+    ensures { IfOk result (λ book.
+        book ≡ record { rules = rules; book = saved_book kept.now }) }
 {
-    put_back_is_saved();
     let blank = blanks.take(alloc, account, rules)?;
     Ok(Book::restore_in(alloc, blank, kept)?)
 }
 
-/// The books of a shard's accounts, restored from the first of these, and those that are left.
-fn restored_list<'a>(
-    alloc: Global,
-    config: &Config,
-    shard: u32,
-    blanks: &mut BlankBooks,
-    kept: &'a [SavedBook],
-) -> Result<(Vec<Book>, &'a [SavedBook]), ServerFault>
-    ensures { IfOk result (λ found.
-        map saved found.0.items ++ map saved_book found.1.now ≡ map saved_book kept.now) }
-{
-    let mut books = Vec::new(alloc);
-    let mut left = kept;
-    for account in 0..config.accounts() {
-        if config.shard_of(account) == shard {
-            let Some((first, rest)) = left.split_first() else {
-                return Err(ServerFault::WrongCount);
-            };
-            let rules = config.entry(account).rules;
-            books.push(restored_book(alloc, blanks, account, rules, first)?)?;
-            left = rest;
-        }
-    }
-    Ok((books, left))
-}
-
-/// The books of each shard, restored from all of these.
-fn restored_shards(
+/// The book of each account, restored from that with its number among these.
+fn restored_books(
     alloc: Global,
     config: &Config,
     blanks: &mut BlankBooks,
     kept: &[SavedBook],
-) -> Result<Vec<Books>, ServerFault>
-    ensures server { IfOk result (λ shards. IsServerOf config.now shards.items) }
-    ensures saved { IfOk result (λ shards. saved_server shards.items ≡ map saved_book kept.now) }
+) -> Result<Vec<Book>, ServerFault>
+    ensures server { IfOk result (λ books. IsServerOf config.now books.items) }
+    ensures saved { IfOk result (λ books. saved_server books.items ≡ map saved_book kept.now) }
 {
-    let mut shards = Vec::new(alloc);
-    let mut left = kept;
-    for shard in 0..config.shards() {
-        let (books, rest) = restored_list(alloc, config, shard, blanks, left)?;
-        let Ok(books) = Books::from_books(config, shard, books) else {
-            return Err(ServerFault::WrongCount);
-        };
-        shards.push(books)?;
-        left = rest;
-    }
-    if !left.is_empty() {
+    let accounts = config.accounts();
+    if kept.len() != accounts as usize {
         return Err(ServerFault::WrongCount);
     }
-    Ok(shards)
+    let mut books = Vec::new(alloc);
+    for account in 0..accounts {
+        let rules = config.entry(account).rules;
+        books.push(restored_book(alloc, blanks, account, rules, &kept[account as usize])?)?;
+    }
+    Ok(books)
 }
 
 impl ServerBooks {
-    /// The saved form of each book, shard after shard, and in each in the order of the accounts'
-    /// numbers. It fails only if memory is refused.
+    /// The saved form of each book, in the order of the accounts' numbers. It fails only if memory is
+    /// refused.
     pub fn save(&self, alloc: Global) -> Result<Vec<SavedBook>, NoMemory>
         ensures { IfOk result (λ kept. map saved_book kept.items ≡ saved_server self.now) }
     {
-        saved_of(alloc, &self.shards)
+        saved_of(alloc, &self.list)
     }
 
     /// The saved books of a configuration, with all the memory that they will ever use.
@@ -135,10 +99,10 @@ impl ServerBooks {
         ensures server { IfOk result (λ server. IsServerOf config.now server) }
         ensures saved { IfOk result (λ server. saved_server server ≡ map saved_book kept.now) }
     {
-        // Shows the prover that a configuration has 1 to 4 shards.
-        let _shards = config.shards();
+        // Shows the prover that a configuration has 16,384 accounts at most.
+        let _accounts = config.accounts();
         let mut blanks = blanks;
-        let shards = restored_shards(alloc, config, &mut blanks, kept)?;
-        Ok(ServerBooks { shards })
+        let list = restored_books(alloc, config, &mut blanks, kept)?;
+        Ok(ServerBooks { list })
     }
 }

@@ -1,10 +1,10 @@
-use Rattle.std.proofs.Common.{◌≡◌, ◌++◌, take, drop, map, length}
-use Rattle.rsl_shard.specs.declared.moved.Move.TheVariants as moves
-use Rattle.rld_books.specs.Server.{shard_after}
+use Rattle.std.proofs.Common.{◌≡◌, ◌++◌, take, drop, map, length, Some}
+use Rattle.rsl_event.specs.declared.event.Act.TheVariants.{Tick}
+use Rattle.rsl_shard.specs.Restep.{step_by}
 use Rattle.rld_books.proofs.server_books.tick_each.Given as goal
 
 abbrev pub invariant-loop-index : goal.invariant-loop-index
 invariant-loop-index l = record {
-  shards : l.shards ≡ map (shard_after (moves.Tick l.moment)) (take l.index l.initial.shards) ++ drop l.index l.initial.shards;
-  len : length l.shards ≡ length l.initial.shards;
+  books : l.books ≡ map (step_by (Some (record { moment = l.moment; act = Tick }))) (take l.index l.initial.books) ++ drop l.index l.initial.books;
+  len : length l.books ≡ length l.initial.books;
 }

@@ -8,7 +8,7 @@ pub returns-in_default-clause-have : goal.returns-in_default-clause-have
 returns-in_default-clause-have g c = λ told premise config opening history unanswered so.
     let store = c.args.store in
     let file : List ℕ = g.L.Log.seen c.crashed.result in
-    crashes_lose config opening store.counts g.L.Log.tears store.end (g.L.Log.seen store.log) (g.L.Log.may_leave store.log) store.whole store.books history unanswered so
+    crashes_lose config opening store.counts store.table.items g.L.Log.tears store.end (g.L.Log.seen store.log) (g.L.Log.may_leave store.log) store.whole store.books history unanswered so
     c.args.ending premise file (subst (λ log. g.L.Log.may_leave log c.args.ending file) c.into_log.ensures (c.crashed.ensures.left told))
 
 pub returns-in-Ok-roll-clause-have : goal.returns-in-Ok-roll-clause-have
@@ -18,5 +18,5 @@ returns-in-Ok-roll-clause-have g c = λ told premise config opening history unan
     let tells = subst (λ log. IsTrue (g.L.Log.tells log)) c.into_log-in-Ok-roll.ensures (c.crashed-in-Ok-roll-2.ensures.told told.1) in
     let stands = c.in-Ok-roll.ensures.stands tells (c.in-Ok.ensures.settled (c.in-Ok-roll.ensures.told tells)) config opening history unanswered so in
     inl (inl (⊎_elim (λ has. has) (λ has. subst (λ (h : List Move). HasHistory config opening h file) (append-nil history) has)
-    (crashes_lose config opening now.counts g.L.Log.tears now.end (g.L.Log.seen now.log) (g.L.Log.may_leave now.log) now.whole now.books history [] stands
+    (crashes_lose config opening now.counts now.table.items g.L.Log.tears now.end (g.L.Log.seen now.log) (g.L.Log.may_leave now.log) now.whole now.books history [] stands
     c.args.ending premise file (subst (λ log. g.L.Log.may_leave log c.args.ending file) c.into_log-in-Ok-roll.ensures (c.crashed-in-Ok-roll-2.ensures.left told.1)))))

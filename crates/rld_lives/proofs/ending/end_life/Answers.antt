@@ -6,5 +6,5 @@ pub returns-in-None-clause-have : goal.returns-in-None-clause-have
 returns-in-None-clause-have g c = λ told premise config opening history unanswered so.
     let store = c.args.store in
     let file : List ℕ = g.L.Log.seen c.crashed.result in
-    crashes_lose config opening store.counts g.L.Log.tears store.end (g.L.Log.seen store.log) (g.L.Log.may_leave store.log) store.whole store.books history unanswered so
+    crashes_lose config opening store.counts store.table.items g.L.Log.tears store.end (g.L.Log.seen store.log) (g.L.Log.may_leave store.log) store.whole store.books history unanswered so
     c.args.ending premise file (subst (λ log. g.L.Log.may_leave log c.args.ending file) c.into_log.ensures (c.crashed.ensures.left told))

@@ -2,7 +2,7 @@ use Rattle.std.proofs.Common.{◌≡◌, ◌++◌, ◌∷◌, [], List, length, 
 use Rattle.std.specs.Prelude.{Ok, Err}
 use Rattle.std.specs.Vec.Iter.{into_iter_items}
 use Rattle.rsl_shard.specs.declared.moved.Move.{Move}
-use Rattle.rsl_shard.specs.Restep.{BooksSeen}
+use Rattle.rld_books.specs.Server.{ServerSeen}
 use Rattle.rld_store.specs.Recorded.{is_last}
 use Rattle.rld_store.specs.Stored.{is_unsynced}
 use Rattle.rld_store.specs.declared.fault.RecordFault.TheVariants.{Failed, Ended}
@@ -65,9 +65,9 @@ loop-step-preserved-in-Ok g c =
           c.in-Ok.recorded c.push_reserved.ensures.items c.in-Ok.ensures.decisions c.in-Ok.ensures.books;
       over = λ none. (c.commit.ensures.over (now.over none).0 ∙ ap is_unsynced c.in-Ok.is, ended_more outcomes more (Ok c.in-Ok.recorded) c.push_reserved.ensures.items (now.over none).1);
       goes = λ told config opening history so.
-          goes_recorded config opening was.counts store.counts g.L.Log.tears was.end store.end (g.L.Log.seen was.log) (g.L.Log.seen store.log) (g.L.Log.may_leave was.log) (g.L.Log.may_leave store.log) was.whole store.whole
+          goes_recorded config opening was.counts store.counts was.table.items store.table.items g.L.Log.tears was.end store.end (g.L.Log.seen was.log) (g.L.Log.seen store.log) (g.L.Log.may_leave was.log) (g.L.Log.may_leave store.log) was.whole store.whole
           was.books store.books history batches outcomes more batch rest
-          (subst (λ (b : List (List Move)). GoesOn config opening was.counts g.L.Log.tears was.end (g.L.Log.seen was.log) (g.L.Log.may_leave was.log) was.whole was.books history batches outcomes b) next
+          (subst (λ (b : List (List Move)). GoesOn config opening was.counts was.table.items g.L.Log.tears was.end (g.L.Log.seen was.log) (g.L.Log.may_leave was.log) was.whole was.books history batches outcomes b) next
           (now.goes (c.commit.ensures.told told) config opening history so))
           c.in-Ok.recorded c.push_reserved.ensures.items (c.in-Ok.ensures.recorded told config opening) c.in-Ok.ensures.settled;
     }
@@ -99,9 +99,9 @@ loop-step-preserved g c =
         ended_more outcomes more (Err Failed) c.push_reserved-in-Failed.ensures.items (now.over none).1,
       );
       goes = λ told config opening history so.
-          goes_unrecorded config opening was.counts store.counts g.L.Log.tears was.end store.end (g.L.Log.seen was.log) (g.L.Log.seen store.log) (g.L.Log.may_leave was.log) (g.L.Log.may_leave store.log) was.whole store.whole
+          goes_unrecorded config opening was.counts store.counts was.table.items store.table.items g.L.Log.tears was.end store.end (g.L.Log.seen was.log) (g.L.Log.seen store.log) (g.L.Log.may_leave was.log) (g.L.Log.may_leave store.log) was.whole store.whole
           was.books store.books history batches outcomes more batch rest
-          (subst (λ (b : List (List Move)). GoesOn config opening was.counts g.L.Log.tears was.end (g.L.Log.seen was.log) (g.L.Log.may_leave was.log) was.whole was.books history batches outcomes b) next
+          (subst (λ (b : List (List Move)). GoesOn config opening was.counts was.table.items g.L.Log.tears was.end (g.L.Log.seen was.log) (g.L.Log.may_leave was.log) was.whole was.books history batches outcomes b) next
           (now.goes (c.commit.ensures.told told) config opening history so))
           Failed c.push_reserved-in-Failed.ensures.items (c.in-Err.ensures.left told config opening);
     }
@@ -123,12 +123,12 @@ loop-step-preserved-in-Roll g c =
       len = omega (arith, now.len, c.in-Some.ensures.steps.1, long);
       room = omega (arith, now.room, long);
       told = λ told. now.told (c.roll_on.ensures.told told);
-      out = λ later are. now.out later (subst (λ (b : List (List Move)). AreOutcomes was.books b later) (sym next) (subst (λ (b : List BooksSeen). AreOutcomes b rest later) c.roll_on.ensures.books are));
+      out = λ later are. now.out later (subst (λ (b : List (List Move)). AreOutcomes was.books b later) (sym next) (subst (λ (b : ServerSeen). AreOutcomes b rest later) c.roll_on.ensures.books are));
       over = λ none. (c.roll_on.ensures.over ∙ (now.over none).0, (now.over none).1);
       goes = λ told config opening history so.
-          goes_on config opening was.counts store.counts g.L.Log.tears was.end store.end (g.L.Log.seen was.log) (g.L.Log.seen store.log) (g.L.Log.may_leave was.log) (g.L.Log.may_leave store.log) was.whole store.whole
+          goes_on config opening was.counts store.counts was.table.items store.table.items g.L.Log.tears was.end store.end (g.L.Log.seen was.log) (g.L.Log.seen store.log) (g.L.Log.may_leave was.log) (g.L.Log.may_leave store.log) was.whole store.whole
           was.books store.books history batches outcomes rest (c.roll_on.ensures.stands told config opening)
-          (subst (λ (b : List (List Move)). GoesOn config opening was.counts g.L.Log.tears was.end (g.L.Log.seen was.log) (g.L.Log.may_leave was.log) was.whole was.books history batches outcomes b) next
+          (subst (λ (b : List (List Move)). GoesOn config opening was.counts was.table.items g.L.Log.tears was.end (g.L.Log.seen was.log) (g.L.Log.may_leave was.log) was.whole was.books history batches outcomes b) next
           (now.goes (c.roll_on.ensures.told told) config opening history so));
     }
 
@@ -155,13 +155,13 @@ returns-in-Ended-clause-lived g c = λ told config opening history so.
     let out : AreOutcomes c.args.store.now.books batches more = next_ended c.args.store.now.books was.books store.books batches rest batch outcomes more
     (subst (λ (b : List (List Move)). (later : List Outcome) → AreOutcomes was.books b later → AreOutcomes c.args.store.now.books batches (outcomes ++ later)) next c.loop-step.invariant.out)
     c.push_reserved-in-Ended.ensures.items in
-    stands_after config opening store.counts g.L.Log.tears store.end (g.L.Log.seen store.log) (g.L.Log.may_leave store.log) store.whole store.books history batches more rest
-    (goes_unrecorded config opening was.counts store.counts g.L.Log.tears was.end store.end (g.L.Log.seen was.log) (g.L.Log.seen store.log) (g.L.Log.may_leave was.log) (g.L.Log.may_leave store.log) was.whole store.whole
+    stands_after config opening store.counts store.table.items g.L.Log.tears store.end (g.L.Log.seen store.log) (g.L.Log.may_leave store.log) store.whole store.books history batches more rest
+    (goes_unrecorded config opening was.counts store.counts was.table.items store.table.items g.L.Log.tears was.end store.end (g.L.Log.seen was.log) (g.L.Log.seen store.log) (g.L.Log.may_leave was.log) (g.L.Log.may_leave store.log) was.whole store.whole
     was.books store.books history batches outcomes more batch rest
-    (subst (λ (b : List (List Move)). GoesOn config opening was.counts g.L.Log.tears was.end (g.L.Log.seen was.log) (g.L.Log.may_leave was.log) was.whole was.books history batches outcomes b) next
+    (subst (λ (b : List (List Move)). GoesOn config opening was.counts was.table.items g.L.Log.tears was.end (g.L.Log.seen was.log) (g.L.Log.may_leave was.log) was.whole was.books history batches outcomes b) next
     (c.loop-step.invariant.goes (c.commit.ensures.told told) config opening history so))
     Ended c.push_reserved-in-Ended.ensures.items (c.in-Err.ensures.left told config opening))
-    (subst (λ (s : List BooksSeen). AreOutcomes s batches more) so.replayed out)
+    (subst (λ (s : ServerSeen). AreOutcomes s batches more) so.replayed out)
 
 pub returns-in-Ended-clause-over : goal.returns-in-Ended-clause-over
 returns-in-Ended-clause-over g c = λ none.
@@ -185,6 +185,6 @@ returns-clause-lived g c = λ told config opening history so.
     let store = c.loop-step.store in
     let out : AreOutcomes c.args.store.now.books batches outcomes = none_next c.args.store.now.books store.books batches rest outcomes c.loop-step.invariant.out
     (none_of (into_iter_items c.loop-step.step-iterator) (omega (arith, c.loop-step.invariant.len, c.in-None.ensures.steps.0))) in
-    stands_after config opening store.counts g.L.Log.tears store.end (g.L.Log.seen store.log) (g.L.Log.may_leave store.log) store.whole store.books history batches outcomes rest
+    stands_after config opening store.counts store.table.items g.L.Log.tears store.end (g.L.Log.seen store.log) (g.L.Log.may_leave store.log) store.whole store.books history batches outcomes rest
     (c.loop-step.invariant.goes told config opening history so)
-    (subst (λ (s : List BooksSeen). AreOutcomes s batches outcomes) so.replayed out)
+    (subst (λ (s : ServerSeen). AreOutcomes s batches outcomes) so.replayed out)

@@ -2,7 +2,7 @@ use Rattle.std.proofs.Common.{◌≡◌, ◌+◌, ◌≤◌, ◌++◌, false, Li
 use Rattle.std.specs.Vec.{vec_capacity}
 use Rattle.std.specs.Vec.Iter.{into_iter_items, into_iter_len}
 use Rattle.rsl_accounts.specs.Configuration.{Configuration}
-use Rattle.rsl_shard.specs.Restep.{BooksSeen}
+use Rattle.rld_books.specs.Server.{ServerSeen}
 use Rattle.rsl_shard.specs.declared.moved.Move.{Move}
 use Rattle.rld_store.specs.Standing.{StandsFor}
 use Rattle.rld_lives.specs.Leaving.{batches_of}
@@ -20,8 +20,8 @@ invariant-loop-step g l = record {
   out : (later : List Outcome) → AreOutcomes l.store.books (batches_of (into_iter_items l.step-iterator)) later
       → AreOutcomes l.fn.store.books (batches_of l.fn.steps.items) (l.outcomes.items ++ later);
   over : l.fn.store.is_over ≡ false → (l.store.is_over ≡ false) × (has_ended l.outcomes.items ≡ false);
-  goes : IsTrue (g.L.Log.tells l.store.log) → (config : Configuration) (opening : List BooksSeen) (history : List Move)
-      → StandsFor config opening l.fn.store.counts g.L.Log.tears l.fn.store.end (g.L.Log.seen l.fn.store.log) (g.L.Log.may_leave l.fn.store.log) l.fn.store.whole l.fn.store.books history []
-      → GoesOn config opening l.store.counts g.L.Log.tears l.store.end (g.L.Log.seen l.store.log) (g.L.Log.may_leave l.store.log) l.store.whole l.store.books history
+  goes : IsTrue (g.L.Log.tells l.store.log) → (config : Configuration) (opening : ServerSeen) (history : List Move)
+      → StandsFor config opening l.fn.store.counts l.fn.store.table.items g.L.Log.tears l.fn.store.end (g.L.Log.seen l.fn.store.log) (g.L.Log.may_leave l.fn.store.log) l.fn.store.whole l.fn.store.books history []
+      → GoesOn config opening l.store.counts l.store.table.items g.L.Log.tears l.store.end (g.L.Log.seen l.store.log) (g.L.Log.may_leave l.store.log) l.store.whole l.store.books history
       (batches_of l.fn.steps.items) l.outcomes.items (batches_of (into_iter_items l.step-iterator));
 }

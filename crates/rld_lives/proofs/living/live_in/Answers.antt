@@ -35,5 +35,5 @@ returns-in-Ok-open-clause-kept g c =
     let told_read = c.in-Ok-open.ensures.told told_open in
     let so = c.in-Ok-open.ensures.stands told_open opening history (subst (HasHistory c.args.config.now opening history) (sym (c.read_frames.ensures.same told_read)) has) in
     ⊎_elim (λ has. has) (λ has. subst (λ (h : List Move). HasHistory c.args.config.now opening h file) (append-nil history) has)
-    (crashes_lose c.args.config.now opening store.counts g.L.Log.tears store.end (g.L.Log.seen store.log) (g.L.Log.may_leave store.log) store.whole store.books history [] so
+    (crashes_lose c.args.config.now opening store.counts store.table.items g.L.Log.tears store.end (g.L.Log.seen store.log) (g.L.Log.may_leave store.log) store.whole store.books history [] so
     ending premise file (subst (λ log. g.L.Log.may_leave log ending file) same reached)))

@@ -3,7 +3,7 @@ use Rattle.std.specs.Prelude.{IfSome}
 use Rattle.std.specs.List.{AllByRecursion}
 use Rattle.std.specs.Vec.{vec_capacity}
 use Rattle.std.specs.Vec.Iter.{into_iter_items, into_iter_len}
-use Rattle.rsl_shard.specs.Restep.{BooksSeen}
+use Rattle.rld_books.specs.Server.{ServerSeen}
 use Rattle.rsl_shard.specs.declared.moved.Move.{Move}
 use Rattle.rld_store.specs.Premises.{Only, Premise}
 use Rattle.rld_lives.specs.Leaving.{HaveHistory, IsLeft, OfEach}
@@ -29,6 +29,6 @@ invariant-loop-plan g l = record {
   premises : All (λ (plan : Plan). Premise g.L.Log.tears plan.ending) l.fn.plans.items → AllByRecursion (λ (plan : Plan). Premise g.L.Log.tears plan.ending) (into_iter_items l.plan-iterator);
   have : All (λ (gone : Option g.row.L.Denot). IfSome gone (λ log. IsTrue (g.L.Log.tells log))) l.gone.items → OfEach (λ log. IsTrue (g.L.Log.tells log)) l.logs.older l.logs.newest
       → OfEach (λ log. Only (g.L.Log.seen log) (g.L.Log.may_leave log)) l.fn.logs.older l.fn.logs.newest → All (λ (plan : Plan). Premise g.L.Log.tears plan.ending) l.fn.plans.items
-      → (opening : List BooksSeen) (history : List Move) → HaveHistory l.config opening history g.L.Log.seen l.fn.logs.older l.fn.logs.newest
+      → (opening : ServerSeen) (history : List Move) → HaveHistory l.config opening history g.L.Log.seen l.fn.logs.older l.fn.logs.newest
       → HaveGone l.config opening history (plans_of l.fn.plans.items) (told_of l.told.items) (plans_of (into_iter_items l.plan-iterator)) g.L.Log.seen l.logs.older l.logs.newest;
 }

@@ -17,5 +17,5 @@ pub returns-clause-stands : goal.returns-clause-stands
 returns-clause-stands g c = λ told config opening history unanswered so.
     either c.roll-older.result (c.roll-older.ensures.told told) c.roll-older.ensures.err
     (λ tells. either c.roll-older.result (c.roll-older.ensures.stands told (c.in-Ok.ensures.settled tells) config opening history unanswered so) c.roll-older.ensures.err inr
-    (λ same. inl (subst (λ store. StandsFor config opening store.counts g.L.Log.tears store.end (g.L.Log.seen store.log) (g.L.Log.may_leave store.log) store.whole store.books history unanswered) (sym same) so)))
-    (λ same. inl (subst (λ store. StandsFor config opening store.counts g.L.Log.tears store.end (g.L.Log.seen store.log) (g.L.Log.may_leave store.log) store.whole store.books history unanswered) (sym same) so))
+    (λ same. inl (subst (λ store. StandsFor config opening store.counts store.table.items g.L.Log.tears store.end (g.L.Log.seen store.log) (g.L.Log.may_leave store.log) store.whole store.books history unanswered) (sym same) so)))
+    (λ same. inl (subst (λ store. StandsFor config opening store.counts store.table.items g.L.Log.tears store.end (g.L.Log.seen store.log) (g.L.Log.may_leave store.log) store.whole store.books history unanswered) (sym same) so))

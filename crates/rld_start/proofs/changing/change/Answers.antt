@@ -1,24 +1,22 @@
-use Rattle.std.proofs.Common.{sym, ◌∙◌}
+use Rattle.std.proofs.Common.{subst, ◌∙◌}
 use Rattle.std.proofs.lemmas.Result.{IfOk-weaker}
-use Rattle.rld_start.specs.NextHeaders.{generation_named}
-use Rattle.rld_start.proofs.After.{after_era}
-use Rattle.rld_start.proofs.Going.{admits_of}
+use Rattle.rld_books.specs.Admitted.{AreAdmitted}
+use Rattle.rld_books.specs.Server.{ServerSeen}
+use Rattle.rld_spelling.specs.Tables.{table_of}
+use Rattle.rld_start.proofs.Going.{both_ok, changed_by_number}
 use Rattle.rld_start.proofs.changing.change.Goals as goal
-
-pub returns-clause-after : goal.returns-clause-after
-returns-clause-after g c =
-    IfOk-weaker c.change_from.result _ _
-    (λ started era. after_era c.args.names.now c.args.begun.generation (generation_named started.header) c.requires.there era)
-    c.change_from.ensures.era
 
 pub returns-clause-admits : goal.returns-clause-admits
 returns-clause-admits g c =
     IfOk-weaker c.change_from.result _ _
-    (λ started admitted. record {
-      old = c.in_ok-old.old;
-      boot = c.in_ok-old.ensures.0;
-      spelled = sym c.as_slice.ensures.value ∙ c.in_ok-old.ensures.1;
-      admitted = admits_of c.in_ok-old.old c.args.begun c.in_ok-former.former.opened.header c.in_ok-former.former.opened.store.books
-          c.in_ok-former.former.opened.moves c.in_ok-former.ensures.found c.args.config.now started.store.books admitted;
+    (λ started is. record {
+      old = c.args.old.now;
+      other = c.requires;
+      header = c.in_ok-former.former.opened.header;
+      end = c.in_ok-former.former.opened.store.books;
+      count = c.in_ok-former.former.opened.moves;
+      there = c.in_ok-former.ensures.there;
+      admitted = subst (λ (books : ServerSeen). AreAdmitted (table_of c.args.old.now) books (table_of c.args.config.now) started.store.books) c.into_books.ensures is.0;
+      next_is = changed_by_number c.in_ok-former.former.opened.header started.store.header c.in_ok-next.next c.in_ok-former.former.opened.moves (is.1 ∙ c.in-Some.ensures);
     })
-    c.change_from.ensures.admitted
+    (both_ok c.change_from.result _ _ c.change_from.ensures.admitted c.change_from.ensures.header)

@@ -1,10 +1,8 @@
-use Rattle.std.proofs.Common.{Option, IfSome, rules, subst, sym}
+use Rattle.std.proofs.Common.{ℕ, Option, IfSome, rules, subst, sym}
 use Rattle.rld_start.specs.Counted.{AreSessionsOf}
-use Rattle.rld_start.specs.declared.count.Admitted.{Admitted}
 use Rattle.rld_start.proofs.changing.change_from.Goals as goal
 
 pub returns-clause-held : goal.returns-clause-held
 returns-clause-held g c =
-    let counted : AreSessionsOf c.args.former.opened.store.books c.sessions_in.result = search rules in
-    subst (λ (found : Option Admitted). IfSome found (λ admitted. AreSessionsOf c.args.former.opened.store.books admitted.sessions))
-    (sym c.in_ok-found.ensures.admitted) counted
+    let counted : AreSessionsOf c.args.end.books c.sessions_in-held.result = search rules in
+    subst (λ (found : Option ℕ). IfSome found (AreSessionsOf c.args.end.books)) (sym c.in_ok-found.ensures.held) counted

@@ -1,10 +1,10 @@
 use Rattle.std.proofs.Common.{subst}
 use Rattle.rld_log.specs.declared.reading.Frames.{Frames}
-use Rattle.rld_start.specs.Going.{IsOpened}
+use Rattle.rld_store.specs.Opening.{IsThereIn}
 use Rattle.rld_start.proofs.reopening.reopen.Goals as goal
 
-pub returns-clause-found : goal.returns-clause-found
-returns-clause-found c =
-    subst (λ (frames : Frames). IsOpened c.args.config.now frames.octets.items c.in_ok-opened.opened.header
+pub returns-in-Ok-clause-there : goal.returns-in-Ok-clause-there
+returns-in-Ok-clause-there c =
+    subst (λ (frames : Frames). IsThereIn c.args.config.now frames.octets.items c.in_ok-opened.opened.header
     c.in_ok-opened.opened.store.books c.in_ok-opened.opened.moves)
-    c.into_log-frames.ensures.frames c.in_ok-opened.ensures.found
+    c.into_log-frames.ensures.frames c.in_ok-opened.ensures.there

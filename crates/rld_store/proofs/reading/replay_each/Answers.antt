@@ -16,15 +16,15 @@ loop-index-init c = record {
 }
 
 pub returns-in-Err-clause-why : goal.returns-in-Err-clause-why
-returns-in-Err-clause-why c = λ header snapshot whole.
-    moves_why c.args.counts header snapshot (map (λ (payload : Bor (List ℕ)). payload.now) c.args.payloads.now) c.loop-index.index c.in_ok-part.part.payload.now c.loop-index.end c.in_ok-part.part.end c.in-Err.fault
-    (c.payload_at.ensures ∙ ap Some (sym c.in_ok-part.ensures.payload)) c.in_ok-part.ensures.fits (c.loop-index.invariant.ended (header ∷ snapshot ∷ []) whole) c.in_ok-part.ensures.end
+returns-in-Err-clause-why c = λ front snapshot table whole.
+    moves_why c.args.counts table front snapshot (map (λ (payload : Bor (List ℕ)). payload.now) c.args.payloads.now) c.loop-index.index c.in_ok-part.part.payload.now c.loop-index.end c.in_ok-part.part.end c.in-Err.fault
+    (c.payload_at.ensures ∙ ap Some (sym c.in_ok-part.ensures.payload)) c.in_ok-part.ensures.fits (c.loop-index.invariant.ended (front ∷ snapshot ∷ []) whole) c.in_ok-part.ensures.end
     c.in-Err.ensures.why
 
 pub returns-in-Err-make_each-clause-why : goal.returns-in-Err-make_each-clause-why
-returns-in-Err-make_each-clause-why c = λ header snapshot whole.
-    foreign_why c.args.counts header snapshot (map (λ (payload : Bor (List ℕ)). payload.now) c.args.payloads.now) c.loop-index.index c.in_ok-part.part.payload.now c.loop-index.end c.in_ok-part.part.end c.begin.result c.in-Err-make_each.fault
-    (c.payload_at.ensures ∙ ap Some (sym c.in_ok-part.ensures.payload)) c.in_ok-part.ensures.fits (c.loop-index.invariant.ended (header ∷ snapshot ∷ []) whole) c.in_ok-part.ensures.end
+returns-in-Err-make_each-clause-why c = λ front snapshot table whole.
+    foreign_why c.args.counts table front snapshot (map (λ (payload : Bor (List ℕ)). payload.now) c.args.payloads.now) c.loop-index.index c.in_ok-part.part.payload.now c.loop-index.end c.in_ok-part.part.end c.begin.result c.in-Err-make_each.fault
+    (c.payload_at.ensures ∙ ap Some (sym c.in_ok-part.ensures.payload)) c.in_ok-part.ensures.fits (c.loop-index.invariant.ended (front ∷ snapshot ∷ []) whole) c.in_ok-part.ensures.end
     c.begin.ensures c.in-Err-make_each.ensures.why
 
 pub loop-index-preserved : goal.loop-index-preserved

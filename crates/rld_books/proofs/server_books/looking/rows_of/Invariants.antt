@@ -1,6 +1,11 @@
-use Rattle.std.proofs.Common.{◌≡◌, take}
+use Rattle.std.proofs.Common.{◌≡◌, ◌++◌, drop}
+use Rattle.rsl_shard.specs.Rows.{rows_from}
 use Rattle.rld_books.specs.Saved.{rows_in}
 use Rattle.rld_books.proofs.server_books.looking.rows_of.Given as goal
 
-abbrev pub invariant-loop-shard : goal.invariant-loop-shard
-invariant-loop-shard l = l.rows.items ≡ rows_in (take l.shard-index l.shards)
+-- the rows of the books that were looked at, and those of the others, are all rows
+abbrev pub invariant-loop-book : goal.invariant-loop-book
+invariant-loop-book l = record {
+  number : l.account ≡ l.book-index;
+  rows : l.rows.items ++ rows_from l.account 1 (drop l.book-index l.books) ≡ rows_in l.books;
+}

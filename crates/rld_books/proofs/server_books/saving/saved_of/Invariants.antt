@@ -1,7 +1,7 @@
 use Rattle.std.proofs.Common.{◌≡◌, map, take}
+use Rattle.rsl_book.specs.Restored.{saved}
 use Rattle.rsl_session.specs.Saved.{saved_book}
-use Rattle.rld_books.specs.Saved.{saved_server}
 use Rattle.rld_books.proofs.server_books.saving.saved_of.Given as goal
 
-abbrev pub invariant-loop-shard : goal.invariant-loop-shard
-invariant-loop-shard l = map saved_book l.kept.items ≡ saved_server (take l.shard-index l.shards)
+abbrev pub invariant-loop-book : goal.invariant-loop-book
+invariant-loop-book l = map saved_book l.kept.items ≡ map saved (take l.book-index l.books)

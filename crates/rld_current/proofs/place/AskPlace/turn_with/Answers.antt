@@ -1,7 +1,7 @@
 use Rattle.std.proofs.Common.{rules, ◌≡◌, ℕ, List, take, ap, subst, refl}
 use Rattle.std.specs.Prelude.{IfSome, map}
 use Rattle.std.specs.Arc.{arc_value}
-use Rattle.rld_turn.specs.declared.peer_port.PeerDatagram.{PeerDatagram}
+use Rattle.rld_turn.specs.Present.{PeerDatagram}
 use Rattle.rld_current.proofs.Asks.{told_answers}
 use Rattle.rld_current.specs.Asking.{AreAnswers}
 use Rattle.rld_current.specs.Requests.{AreRequests, datagrams_of}
@@ -17,7 +17,7 @@ returns-clause-answered g c =
     let requests : List (List ℕ) = map (λ request. request.items) port.requests.items in
     let config : c.deref.result.now ≡ arc_value c.args.current.now.config = search rules in
     told_answers (λ replies. replies.items) (arc_value c.args.current.now.config) c.args.shared.now.networks.now
-    c.args.current.now.boot c.args.current.now.header.era c.args.self.now.client c.args.asks.now c.answers_or_none.result.items
+    c.args.current.now.boot c.args.current.now.table c.args.self.now.client c.args.asks.now c.answers_or_none.result.items
     requests port.peer then.next
     c.args.self.now.receiver.port _ _ _ _ watch.is_whole then.is_whole watch.noted.items then.replies c.into_replies.result
     (subst (λ (present : Configuration). AreRequests present c.args.self.now.client c.args.asks.now requests) config c.in-Ok.ensures.requests)

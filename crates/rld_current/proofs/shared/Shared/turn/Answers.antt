@@ -2,12 +2,11 @@ use Rattle.std.proofs.Common.{◌≡◌, ℕ, ◌≤◌, List, [], ◌++◌, ap,
 use Rattle.std.specs.Prelude.{Bool, IfSome, None}
 use Rattle.rld_turn.proofs.Deciding.{has_decided, same_recorded}
 use Rattle.rld_turn.proofs.Entering.{as_many, can_end}
-use Rattle.rld_turn.specs.Present.{service_of}
+use Rattle.rld_turn.specs.Present.{PeerDatagram, service_of}
 use Rattle.rld_turn.specs.Entered.{AreEntered}
 use Rattle.rld_turn.specs.Recorded.{books_before, decisions_in, is_recorded, recorded_in}
 use Rattle.rld_turn.specs.Told.{HasBegun}
 use Rattle.rld_turn.specs.Turned.{Turned}
-use Rattle.rld_turn.specs.declared.peer_port.PeerDatagram.{PeerDatagram}
 use Rattle.rsl_accounts.specs.Configuration.{Configuration, client_number}
 use Rattle.rsl_event.specs.declared.meaning.Port.{Port}
 use Rattle.rld_current.proofs.shared.Shared.turn.Goals as goal
@@ -74,7 +73,7 @@ returns-clause-turned g c =
             (subst (λ (b : Bool). Turned service c.gather-moves.new.self.port c.now-moment.result b before answered.told gathered.taken moves answered.sent)
             (same_recorded outcome) answered.turned);
       };
-      of_era = subst (λ (e : ℕ). IfSome (recorded_in outcome) (λ one. one.era ≡ e)) present.ensures.era c.record-recorded.ensures.era;
+      of_table = subst (λ (e : ℕ). IfSome (recorded_in outcome) (λ one. one.table ≡ e)) present.ensures.table c.record-recorded.ensures.table;
     }
 
 pub returns-clause-down : goal.returns-clause-down

@@ -1,7 +1,6 @@
 use Rattle.std.proofs.Common.{◌≡◌, ◌+◌, ℕ, List, ◌∙◌, drop, length, sym, ap, subst}
-use Rattle.rsl_shard.specs.Restep.{BooksSeen}
 use Rattle.rsl_shard.specs.declared.moved.Move.{Move}
-use Rattle.rld_books.specs.Server.{replay}
+use Rattle.rld_books.specs.Server.{ServerSeen, replay}
 use Rattle.rld_log.specs.Frames.{Fits}
 use Rattle.rld_spelling.specs.Moves.{moves_field}
 use Rattle.rld_spelling.specs.declared.moves.Counts.{Counts}
@@ -23,10 +22,10 @@ returns-clause-recorded g c = λ told config opening history unanswered so.
     let short : Fits payload = subst (λ (p : List ℕ). Fits p) (sym kept) c.in_ok-whole.ensures.short in
     let size_is : c.add.new.self.whole ≡ c.args.self.now.whole + (20 + length payload) =
     c.in_ok-add.ensures.whole ∙ c.in_ok-whole.ensures.whole ∙ ap (λ (p : List ℕ). c.args.self.now.whole + (20 + length p)) (sym kept) in
-    stands_more config opening g.L.Log.tears counts c.add.new.self.counts c.args.self.now.end
+    stands_more config opening g.L.Log.tears counts c.add.new.self.counts c.args.self.now.table.items c.add.new.self.table.items c.args.self.now.end
     (g.L.Log.seen c.args.self.now.log) (g.L.Log.seen c.add.new.self.log) (g.L.Log.may_leave c.args.self.now.log) (g.L.Log.may_leave c.add.new.self.log)
     c.args.self.now.whole c.add.new.self.whole c.args.self.now.books c.make_all-decisions.new.self history unanswered batch payload so
-    (c.add.ensures.counts ∙ c.settle.ensures.counts) short size_is
-    (c.make_all-decisions.ensures.books ∙ ap (λ (b : List BooksSeen). replay b batch) (c.add.ensures.books ∙ c.settle.ensures.books)) spelled fit
+    (c.add.ensures.counts ∙ c.settle.ensures.counts) (ap (λ v. v.items) (c.add.ensures.table ∙ c.settle.ensures.table)) short size_is
+    (c.make_all-decisions.ensures.books ∙ ap (λ (b : ServerSeen). replay b batch) (c.add.ensures.books ∙ c.settle.ensures.books)) spelled fit
     (λ before other size ends. c.in_ok-add.ensures.added told before (subst (λ (e : End). EndsSo e g.L.Log.tears (g.L.Log.seen c.settle.new.self.log) (g.L.Log.may_leave c.settle.new.self.log) before other)
     c.in_ok-settle.ensures.settled (c.settle.ensures.ends told_settle before other size ends)))

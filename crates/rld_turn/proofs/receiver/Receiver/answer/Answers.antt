@@ -18,7 +18,7 @@ loop-entry-init g c = record {
   room = λ told. refl;
   down = λ told. refl;
   turns = refl;
-  answered = λ batch. none_answered _ _ (g.P.PeerPort.tells c.args.datagrams.now ≡ true) _ _ batch (g.P.PeerPort.sent c.args.datagrams.now) (g.W.Watch.knows c.args.watch.now);
+  answered = λ batch. none_answered _ _ (g.P.DatagramPort.tells c.args.datagrams.now ≡ true) _ _ batch (g.P.DatagramPort.sent c.args.datagrams.now) (g.W.Watch.knows c.args.watch.now);
 }
 
 pub loop-entry-preserved : goal.loop-entry-preserved
@@ -36,9 +36,9 @@ loop-entry-preserved g c =
       down = λ told. c.end.ensures.down told ∙ c.loop-entry.invariant.down (c.end.ensures.telling told);
       turns = c.end.ensures.turns ∙ c.loop-entry.invariant.turns;
       answered = λ batch.
-          one_answered service c.args.self.now.port (g.P.PeerPort.tells c.loop-entry.datagrams ≡ true) (g.P.PeerPort.tells c.end.new.datagrams ≡ true) batch.moment decisions batch.begun batch.taken batch.moves
+          one_answered service c.args.self.now.port (g.P.DatagramPort.tells c.loop-entry.datagrams ≡ true) (g.P.DatagramPort.tells c.end.new.datagrams ≡ true) batch.moment decisions batch.begun batch.taken batch.moves
           c.in-Some.entry c.loop-entry.self.queue.items c.pop_front.new.self.items c.end.result
-          (g.P.PeerPort.sent c.args.datagrams.now) (g.P.PeerPort.sent c.loop-entry.datagrams) (g.P.PeerPort.sent c.end.new.datagrams)
+          (g.P.DatagramPort.sent c.args.datagrams.now) (g.P.DatagramPort.sent c.loop-entry.datagrams) (g.P.DatagramPort.sent c.end.new.datagrams)
           (g.W.Watch.knows c.args.watch.now) (g.W.Watch.knows c.loop-entry.watch) (g.W.Watch.knows c.end.new.watch)
           first batch.decided c.end.ensures.end c.end.ensures.telling c.end.ensures.sent c.end.ensures.told
           (c.loop-entry.invariant.answered batch);
@@ -48,6 +48,6 @@ pub returns-clause-answered : goal.returns-clause-answered
 returns-clause-answered g c = λ batch.
     let none : c.loop-entry.self.queue.items ≡ [] = nil_from_length c.loop-entry.self.queue.items (omega (arith, c.in_default.ensures.cases.0)) in
     all_answered _ _ _ _ _ batch c.loop-entry.self.queue.items
-    (g.P.PeerPort.sent c.args.datagrams.now) (g.P.PeerPort.sent c.loop-entry.datagrams)
+    (g.P.DatagramPort.sent c.args.datagrams.now) (g.P.DatagramPort.sent c.loop-entry.datagrams)
     (g.W.Watch.knows c.args.watch.now) (g.W.Watch.knows c.loop-entry.watch)
     none (c.loop-entry.invariant.answered batch)

@@ -1,4 +1,4 @@
-use Rattle.std.proofs.Common.{◌≡◌, ◌≤◌, length, true}
+use Rattle.std.proofs.Common.{◌≡◌, length, true}
 use Rattle.std.specs.List.{AllByRecursion}
 use Rattle.rld_turn.proofs.Replying.{AreAnswered}
 use Rattle.rld_turn.specs.Answered.{Batch}
@@ -11,20 +11,20 @@ abbrev pub invariant-loop-entry : goal.invariant-loop-entry
 invariant-loop-entry g l = record {
   same : l.self.port ≡ l.fn.self.port;
   can : AllByRecursion (CanEnd l.present.config.now (decisions_in l.recorded)) l.self.queue.items;
-  contents : g.P.PeerPort.contents l.datagrams ≡ g.P.PeerPort.contents l.fn.datagrams;
-  telling : g.P.PeerPort.tells l.datagrams ≡ true → g.P.PeerPort.tells l.fn.datagrams ≡ true;
-  taken : g.P.PeerPort.tells l.datagrams ≡ true
-      → g.P.PeerPort.taken l.datagrams ≡ g.P.PeerPort.taken l.fn.datagrams;
-  room : g.P.PeerPort.tells l.datagrams ≡ true
-      → g.P.PeerPort.room l.datagrams ≡ g.P.PeerPort.room l.fn.datagrams;
-  down : g.P.PeerPort.tells l.datagrams ≡ true
-      → g.P.PeerPort.is_down l.datagrams ≡ g.P.PeerPort.is_down l.fn.datagrams;
+  contents : g.P.DatagramPort.contents l.datagrams ≡ g.P.DatagramPort.contents l.fn.datagrams;
+  telling : g.P.DatagramPort.tells l.datagrams ≡ true → g.P.DatagramPort.tells l.fn.datagrams ≡ true;
+  taken : g.P.DatagramPort.tells l.datagrams ≡ true
+      → g.P.DatagramPort.taken l.datagrams ≡ g.P.DatagramPort.taken l.fn.datagrams;
+  room : g.P.DatagramPort.tells l.datagrams ≡ true
+      → g.P.DatagramPort.room l.datagrams ≡ g.P.DatagramPort.room l.fn.datagrams;
+  down : g.P.DatagramPort.tells l.datagrams ≡ true
+      → g.P.DatagramPort.is_down l.datagrams ≡ g.P.DatagramPort.is_down l.fn.datagrams;
   turns : g.W.Watch.turns l.watch ≡ g.W.Watch.turns l.fn.watch;
   answered : (batch : Batch (service_of l.present) l.fn.self.port
       (decisions_in l.recorded) l.fn.self.queue.items)
-      → AreAnswered (service_of l.present) l.fn.self.port (g.P.PeerPort.tells l.datagrams ≡ true) batch.moment
+      → AreAnswered (service_of l.present) l.fn.self.port (g.P.DatagramPort.tells l.datagrams ≡ true) batch.moment
       (decisions_in l.recorded) batch.begun batch.taken batch.moves l.self.queue.items
-      (g.P.PeerPort.sent l.fn.datagrams) (g.P.PeerPort.sent l.datagrams)
+      (g.P.DatagramPort.sent l.fn.datagrams) (g.P.DatagramPort.sent l.datagrams)
       (g.W.Watch.knows l.fn.watch) (g.W.Watch.knows l.watch);
 }
 

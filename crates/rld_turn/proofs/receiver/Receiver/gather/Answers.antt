@@ -1,11 +1,11 @@
 use Rattle.std.proofs.Common.{◌≡◌, ◌≤◌, ◌∷◌, [], length, length-append, refl, sym, ap, subst, take, ◌∙◌, arith}
 use Rattle.std.proofs.Math.Nat.{min-le_left}
 use Rattle.std.specs.Prelude.{Ok, Some, is_err}
+use Rattle.rsl_port.specs.Told.{datagram_of}
 use Rattle.rld_turn.proofs.Entering.{gathered_more, none_gathered}
 use Rattle.rld_turn.proofs.Receiving.{room_more}
 use Rattle.rld_turn.specs.Entered.{IsEntered}
-use Rattle.rld_turn.specs.Present.{peer_datagram, service_of}
-use Rattle.rld_turn.specs.Received.{Received}
+use Rattle.rld_turn.specs.Present.{service_of}
 use Rattle.rsl_event.specs.declared.meaning.Port.{Port}
 use Rattle.rld_turn.proofs.receiver.Receiver.gather.Goals as goal
 
@@ -39,13 +39,13 @@ loop-preserved g c =
           gathered_more (service_of c.args.present.now) c.args.self.now.port c.args.moment _ _
           c.in-Ok-Some.len c.in-Ok-Some.peer c.receive.result c.receive.new.buffer c.enter-entry.result _ _ _ _ _ _ _ got
           told c.loop.invariant.gathered
-          (subst (λ (on : Port). IsEntered (service_of c.args.present.now) on c.args.moment (peer_datagram c.in-Ok-Some.peer (take c.in-Ok-Some.len c.receive.new.buffer)) c.enter-entry.result c.loop.moves.items c.enter-entry.new.batch.items)
+          (subst (λ (on : Port). IsEntered (service_of c.args.present.now) on c.args.moment (datagram_of c.in-Ok-Some.peer (take c.in-Ok-Some.len c.receive.new.buffer)) c.enter-entry.result c.loop.moves.items c.enter-entry.new.batch.items)
           c.loop.invariant.same c.enter-entry.ensures)
           c.push_back_reserved.ensures.items c.receive.ensures.taken;
       sent = λ t. c.receive.ensures.sent t ∙ c.loop.invariant.sent (told t);
       given = λ t.
-          room_more (g.P.PeerPort.room c.args.datagrams.now) (g.P.PeerPort.room c.loop.datagrams) (g.P.PeerPort.room c.receive.new.self)
+          room_more (g.P.DatagramPort.room c.args.datagrams.now) (g.P.DatagramPort.room c.loop.datagrams) (g.P.DatagramPort.room c.receive.new.self)
           (length c.loop.buffer) 4096 (omega (arith, c.loop.auto.buffer))
           (c.loop.invariant.given (told t)) (c.receive.ensures.room t);
-      down = λ some t. c.receive.ensures.down t ∙ ap (λ (r : Received). is_err r) got;
+      down = λ some t. c.receive.ensures.down t ∙ ap (λ r. is_err r) got;
     }

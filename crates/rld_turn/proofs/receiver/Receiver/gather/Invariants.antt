@@ -9,15 +9,15 @@ invariant-loop g l = record {
   same : l.port ≡ l.fn.self.port;
   room : 64 ≤ deque_capacity l.queue;
   entries : length l.queue.items ≡ l.counter;
-  contents : g.P.PeerPort.contents l.datagrams ≡ g.P.PeerPort.contents l.fn.datagrams;
-  telling : g.P.PeerPort.tells l.datagrams ≡ true → g.P.PeerPort.tells l.fn.datagrams ≡ true;
+  contents : g.P.DatagramPort.contents l.datagrams ≡ g.P.DatagramPort.contents l.fn.datagrams;
+  telling : g.P.DatagramPort.tells l.datagrams ≡ true → g.P.DatagramPort.tells l.fn.datagrams ≡ true;
   gathered : HasGathered (service_of l.present) l.fn.self.port l.moment
-      (g.P.PeerPort.tells l.datagrams ≡ true)
-      (g.P.PeerPort.taken l.fn.datagrams) (g.P.PeerPort.taken l.datagrams)
+      (g.P.DatagramPort.tells l.datagrams ≡ true)
+      (g.P.DatagramPort.taken l.fn.datagrams) (g.P.DatagramPort.taken l.datagrams)
       l.queue.items l.moves.items;
-  sent : g.P.PeerPort.tells l.datagrams ≡ true
-      → g.P.PeerPort.sent l.datagrams ≡ g.P.PeerPort.sent l.fn.datagrams;
-  given : g.P.PeerPort.tells l.datagrams ≡ true
-      → min (g.P.PeerPort.room l.fn.datagrams) 4096 ≤ g.P.PeerPort.room l.datagrams;
-  down : 0 < l.counter → g.P.PeerPort.tells l.datagrams ≡ true → g.P.PeerPort.is_down l.datagrams ≡ false;
+  sent : g.P.DatagramPort.tells l.datagrams ≡ true
+      → g.P.DatagramPort.sent l.datagrams ≡ g.P.DatagramPort.sent l.fn.datagrams;
+  given : g.P.DatagramPort.tells l.datagrams ≡ true
+      → min (g.P.DatagramPort.room l.fn.datagrams) 4096 ≤ g.P.DatagramPort.room l.datagrams;
+  down : 0 < l.counter → g.P.DatagramPort.tells l.datagrams ≡ true → g.P.DatagramPort.is_down l.datagrams ≡ false;
 }

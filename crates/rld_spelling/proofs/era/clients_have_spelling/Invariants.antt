@@ -1,6 +1,0 @@
-use Rattle.std.proofs.Common.{take, All}
-use Rattle.rld_spelling.specs.Eras.{ClientFits}
-use Rattle.rld_spelling.proofs.era.clients_have_spelling.Given as goal
-
-abbrev pub invariant-loop-client : goal.invariant-loop-client
-invariant-loop-client l = All ClientFits (take l.client-index l.clients)

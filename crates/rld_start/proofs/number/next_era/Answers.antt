@@ -1,9 +1,0 @@
-use Rattle.std.proofs.Common.{ap, ◌∙◌}
-use Rattle.rld_start.specs.Numbers.{era_of, greatest_of}
-use Rattle.rld_start.proofs.Greatest.{one_more}
-use Rattle.rld_start.proofs.number.next_era.Goals as goal
-
-pub loop-file-preserved : goal.loop-file-preserved
-loop-file-preserved c =
-    one_more era_of c.args.files.now c.loop-file.file-index _ c.loop-file.most _ c.loop-file-test.true c.loop-file.invariant
-    (c.greater-most.ensures ∙ ap (greatest_of c.loop-file.most) c.era_of.ensures)
