@@ -51,17 +51,16 @@ def moves(accounts):
 def write(folder, octets, accounts):
     """Writes the folder of a server with a log of so many octets over so many accounts: how many sessions it has."""
     names = [(b"account%05d" % number, 4, 1) for number in range(accounts)]
-    table = state.table(names, [CLIENT], FIRST, shards=4)
-    frames = [state.frame(payload) for payload in (state.header(1, 1, table), state.new_books(accounts))]
+    front = state.front(1, state.table(names, [CLIENT]), FIRST)
+    frames = [state.frame(payload) for payload in (front, state.new_books(accounts))]
     length, sessions = sum(map(len, frames)), 0
     for batch, begun in moves(accounts):
         if length >= octets:
             break
         frames.append(state.frame(state.listed(batch)))
         length, sessions = length + len(frames[-1]), sessions + begun
-    for name, text in (("era-1", table), ("log-1-1", b"".join(frames))):
-        with open(os.path.join(folder, name), "wb") as file:
-            file.write(text)
+    with open(os.path.join(folder, "log-1"), "wb") as file:
+        file.write(b"".join(frames))
     return sessions
 
 

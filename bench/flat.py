@@ -50,7 +50,7 @@ class Server:
         began = time.monotonic()
         self.process = served.daemon(self.file)
         said = served.greeting(self.process, WAIT)
-        if not said.startswith("era "):
+        if not served.GREETING.match(said):
             sys.exit(f"flat: the server says: {said}")
         return time.monotonic() - began, said.rstrip("\n")
 

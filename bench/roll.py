@@ -34,9 +34,9 @@ class Rolls(threading.Thread):
     def run(self):
         number = 1
         while not self.is_over:
-            if os.path.exists(os.path.join(self.state, f"log-1-{number + 1}")):
+            if os.path.exists(os.path.join(self.state, f"log-{number + 1}")):
                 began = time.monotonic()
-                while not os.path.exists(os.path.join(self.state, "archive", f"log-1-{number}")) and not self.is_over:
+                while not os.path.exists(os.path.join(self.state, "archive", f"log-{number}")) and not self.is_over:
                     time.sleep(0.0002)
                 self.spans.append((began, time.monotonic()))
                 number += 1

@@ -21,7 +21,6 @@ AGAIN = 0.5  # seconds after which a request is sent again
 WAIT = 60  # seconds in which a server has to begin
 # no deadline comes, but for that of a kept ask
 RESERVE = LIVE = 86_400
-SHARDS = 4
 CROWD = 32  # accounts that half of the sessions are of
 DEVICES = 2  # of an account
 HELD = 8  # sessions that an access server has at once, at most
@@ -186,7 +185,7 @@ def account_file(folder: str, places: list[int]) -> None:
     """Writes the account file of a load, of version 3, over accounts of so many places."""
     accounts = [(f"u{number}", PASSWORD, count, 1) for number, count in enumerate(places)]
     path = served.account_file(
-        os.path.join(folder, "accounts.toml"), [(served.HOST, SECRET, True)], accounts, shards=SHARDS, reserve=RESERVE,
+        os.path.join(folder, "accounts.toml"), [(served.HOST, SECRET, True)], accounts, shards=1, reserve=RESERVE,
         keep=history.KEEP, live=LIVE,
     )
     head, *tables = served.text_of(path).replace("version = 1\n", "version = 3\n").split("[[account]]\n")
@@ -220,7 +219,7 @@ def check(servers: list[AccessServer], state: str, places: list[int]) -> Checked
     """That each answer is in the folder, in its place and with its decision, and that `radlimitd lines` prints each
     move with the decision of the books: how many answers and moves there are, the sessions that have a place, and the
     asks that a link of their station yielded to."""
-    replay = history.Replay(state, places, SHARDS)
+    replay = history.Replay(state, places)
     answered = {server.name: server.answered for server in servers}
     accepts = 0
     for line, found in lines_of(replay):

@@ -2,6 +2,7 @@
 that say what it should answer and hold (carried.py)."""
 
 import contextlib
+import itertools
 import json
 import os
 import random
@@ -34,8 +35,8 @@ KILLED = 0.03  # seconds within which a server is killed that was asked
 
 Row = tuple[str, bytes, int, int]  # an account: its name, password, places and ports
 Client = tuple[str, bytes]  # its address and its secret
-# what an era has of an account file: accounts with places and ports, clients, shards and times
-Table = tuple[list[tuple[str, int, int]], list[str], int, tuple[int, ...]]
+# the table of an account file: accounts with places and ports, clients and times
+Table = tuple[list[tuple[str, int, int]], list[str], tuple[int, ...]]
 Books = dict[str, carried.Book]
 Said = tuple[str, str, int | None]  # what a program prints and says, and its status, if it ends
 Held = tuple[list[str], list[list[str]]]  # lines of accounts, and of the sessions of each
@@ -45,7 +46,7 @@ Rows = Iterator[tuple[str, Any, Any]]  # the same with names
 
 class Accounts:
     """An account file: its clients as addresses with secrets, its accounts as names with passwords, places and ports,
-    its shards and its times. Those of the load are among them."""
+    its times, and its shards, which count for nothing. Those of the load are among them."""
 
     def __init__(self, rng: random.Random) -> None:
         self.rng = rng
@@ -71,9 +72,9 @@ class Accounts:
         return [(name, limit, ports) for name, _password, limit, ports in self.own()]
 
     def table(self) -> Table:
-        """What an era has of it."""
+        """Its table: not the shards."""
         rows = [(name, limit, ports) for name, _password, limit, ports in self.accounts]
-        return rows, [address for address, _secret in self.clients], self.shards, self.times
+        return rows, [address for address, _secret in self.clients], self.times
 
     def write(self, path: str) -> None:
         """Writes the file."""
@@ -230,12 +231,13 @@ class Changing:
         self.books = carried.admitted({}, {}, self.accounts.limits())
         self.accounts.write(self.path)
         self.sent: list[Sent] = []
-        self.said, self.told, self.era = "", "", 1
+        self.said, self.told = "", ""
+        self.generation = self.tables = 1  # that which runs, and the number of its table
         for _ in range(10):
             self.ports, (self.web, _) = served.free_ports(), served.free_ports()
             self.write_files(f"[web]\nport = {self.web}\n{more}")
             # another program may take a port in between
-            if self.start().startswith("era "):
+            if served.GREETING.match(self.start()):
                 break
             self.kill()
         self.asker = Asker(self.ports)
@@ -282,10 +284,21 @@ class Changing:
         os.replace(offered, self.path)
         return printed.split("\n")[0] + said, status
 
-    def next_era(self) -> int:
-        """The number of an era that begins now: that behind the greatest of any file."""
-        names = [name for _, _, files in os.walk(self.state) for name in files]
-        return 1 + max(int(found[1]) for name in names if (found := re.fullmatch(r"(?:era-|log-)(\d+)(?:-\d+)?", name)))
+    def next_generation(self) -> int:
+        """The number of a generation that begins now: that behind the greatest of any log."""
+        return 1 + max(map(history.number_of, history.logs(self.state)))
+
+    def front(self) -> tuple[int, int, bool]:
+        """The generation and the number of the table, as the header of the newest log has them that was begun, and whether
+        it counts the moves before. A server may put a log away meanwhile."""
+        while True:
+            with contextlib.suppress(FileNotFoundError):
+                (_, newest), *before = itertools.islice(history.generations(self.state, True), 2)
+                found, count = history.Reader(newest[0]).header(), 0
+                for _, payloads in before:
+                    moves = sum(len(history.Reader(payload).moves()) for payload in payloads[2:])
+                    count = history.Reader(payloads[0]).header().lines + moves
+                return found.generation, found.table, found.lines == count
 
     def carried_to(self, accounts: Accounts) -> Books:
         """The books of another account file, which follows this one."""
@@ -296,11 +309,12 @@ class Changing:
         """How many sessions the books have."""
         return sum(book.sessions() for book in self.books.values())
 
-    def follow(self, accounts: Accounts, era: int) -> tuple[int, int]:
-        """Has another account file count from now on: how many sessions go on, and how many there were."""
+    def follow(self, accounts: Accounts, generation: int) -> tuple[int, int]:
+        """Has another account file count from a generation on, if its table is another: how many sessions go on, and how
+        many there were."""
         held = self.sessions()
         if accounts.table() != self.accounts.table():
-            self.books, self.era = self.carried_to(accounts), era
+            self.books, self.generation, self.tables = self.carried_to(accounts), generation, self.tables + 1
         self.accounts = accounts
         return self.sessions(), held
 
@@ -427,20 +441,22 @@ class Changing:
 
     def changed(self) -> Rows:
         """Changes the account file, and has it read: rows of what came, and of what should."""
-        accounts, era, was = self.accounts.changed(self.books), self.next_era(), self.era
+        accounts, generation = self.accounts.changed(self.books), self.next_generation()
         yield "the look at the file", self.offer(accounts), ("ok", 0)
         is_same = accounts.table() == self.accounts.table()
         answer = self.reload()
-        gone_on, held = self.follow(accounts, era)
+        gone_on, held = self.follow(accounts, generation)
+        front = self.generation, self.tables, True
         if is_same:
-            yield "the answer", answer, (f"era {was} goes on\n", 0)
+            yield "the answer, and the generation", (answer, self.front()), (("as before\n", 0), front)
         else:
-            found = re.fullmatch(rf"era {era}: (\d+) of (\d+) sessions of era {was} go on\n", answer[0])
+            found = re.fullmatch(r"(\d+) of (\d+) sessions go on\n", answer[0])
             if not found:
-                yield "the answer", answer, f"era {era}: {gone_on} of {held} sessions of era {was} go on"
+                yield "the answer", answer, f"{gone_on} of {held} sessions go on"
                 return
             others = int(found[1]) - gone_on
-            yield "the answer", (0 <= others <= self.beside, int(found[2]) - others), (True, held)
+            counted = 0 <= others <= self.beside, int(found[2]) - others
+            yield "the answer, and the generation", (counted, self.front()), ((True, held), front)
         self.told += TOLD + answer[0]
         yield "what is held", self.found(), self.shown()
         for sent in self.sent:
@@ -464,7 +480,7 @@ class Changing:
 
     def killed(self) -> Rows:
         """Changes the account file, and kills the server that reads it: rows of what the next start finds."""
-        old, accounts, era = self.accounts, self.accounts.changed(self.books), self.next_era()
+        old, accounts, generation = self.accounts, self.accounts.changed(self.books), self.next_generation()
         is_same = accounts.table() == old.table()
         yield "the look at the file", self.offer(accounts), ("ok", 0)
         with subprocess.Popen([served.DAEMON, "reload", self.file], stdout=subprocess.PIPE, stderr=subprocess.PIPE) as asks:
@@ -472,10 +488,10 @@ class Changing:
             time.sleep(KILLED * self.rng.random() ** 2)
             self.kill()
             printed = asks.communicate()[0].decode()
-        has_begun = not is_same and self.has_begun(era)
-        yield "an answer comes once the era has begun", bool(printed) and not is_same and not has_begun, False
+        has_begun = not is_same and self.has_begun(generation)
+        yield "an answer comes once the generation has begun", bool(printed) and not is_same and not has_begun, False
         if has_begun:
-            self.follow(accounts, era)
+            self.follow(accounts, generation)
         elif is_same:
             self.accounts = accounts
         goes_on = self.rng.choice([old, accounts])
@@ -485,9 +501,9 @@ class Changing:
         again = [self.again(sent) for sent in self.sent]
         yield "the logins that are sent again", [found for found, _ in again], [due for _, due in again]
 
-    def has_begun(self, era: int) -> bool:
-        """Whether an era has begun: its first log has its header and its snapshot."""
-        path = os.path.join(self.state, f"log-{era}-1")
+    def has_begun(self, generation: int) -> bool:
+        """Whether a generation has begun: its log has its header with its table, and its snapshot."""
+        path = os.path.join(self.state, f"log-{generation}")
         if not os.path.exists(path):
             return False
         with open(path, "rb") as file:
@@ -495,12 +511,14 @@ class Changing:
 
     def restart(self, accounts: Accounts) -> Rows:
         """Starts the server with this account file: what it says, and what it should."""
-        is_same, was, era = accounts.table() == self.accounts.table(), self.era, self.next_era()
-        said = re.sub(r"generation \d+|, torn end of \d+ octets cut off", "", self.start())
-        gone_on, held = self.follow(accounts, era)
-        yield "the start", said, f"era {was}, : {gone_on} sessions\n" if is_same else f"era {era}, new: {gone_on} sessions\n"
+        is_same, was, generation = accounts.table() == self.accounts.table(), self.generation, self.next_generation()
+        said = re.sub(r", torn end of \d+ octets cut off", "", self.start())
+        gone_on, held = self.follow(accounts, generation)
+        self.generation = generation
+        begun = f"generation {was}: {gone_on} sessions\n", (generation, self.tables, True)
+        yield "the start, and its generation", (said, self.front()), begun
         # the one that was killed may have told of a reload or not
-        self.said, self.told = "", "" if is_same else f"accounts changed: {gone_on} of {held} sessions of era {was} go on\n"
+        self.said, self.told = "", "" if is_same else f"accounts changed: {gone_on} of {held} sessions go on\n"
         yield "what it says then", *self.quiet()
 
     def close(self) -> None:

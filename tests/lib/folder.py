@@ -32,18 +32,29 @@ def frame(payload: bytes) -> bytes:
     return len(payload).to_bytes(4, "big") + hashlib.md5(payload).digest() + payload
 
 
-def table(
-    accounts: Sequence[tuple[bytes, int, int]], clients: list[str], boot: int, shards: int = 1,
-    times: tuple[int, ...] = (60, 900, 900, 3600, 10),
-) -> bytes:
-    """An era's table: accounts are names with places and ports, clients addresses."""
+# reserve, live, grace, closed and keep, in seconds
+TIMES = 60, 900, 900, 3600, 10
+
+
+def table(accounts: Sequence[tuple[bytes, int, int]], clients: list[str], times: tuple[int, ...] = TIMES) -> bytes:
+    """A table: accounts are names with places and ports, clients addresses."""
     rows = [string(name) + b"".join(map(number, (places, ports, *times))) for name, places, ports in accounts]
     addresses = [bytes(map(int, address.split("."))) for address in clients]
-    return number(boot) + number(shards) + listed(rows) + listed(addresses)
+    return listed(rows) + listed(addresses)
 
 
-def header(era: int, generation: int, octets: bytes, lines: int = 0, form: int = 2) -> bytes:
-    """The header of a generation of an era whose table has these octets, in this version of the format."""
+def front(generation: int, octets: bytes, boot: int, lines: int = 0, table_number: int = 1) -> bytes:
+    """The first payload of a generation: its header, and the octets of the table, which has this number."""
+    return bytes([3, 1]) + b"".join(map(number, (generation, table_number, boot, lines))) + octets
+
+
+def former_table(octets: bytes, boot: int, shards: int) -> bytes:
+    """The file of an era of format 1 or 2, which has these octets of a table."""
+    return number(boot) + number(shards) + octets
+
+
+def former_header(form: int, era: int, generation: int, octets: bytes, lines: int = 0) -> bytes:
+    """The header of a generation in format 1 or 2. The file of its era has these octets."""
     return bytes([form, 1]) + number(era) + number(generation) + hashlib.md5(octets).digest() + number(lines)
 
 

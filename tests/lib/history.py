@@ -10,12 +10,13 @@ import string
 from collections.abc import Callable, Iterator
 from typing import Any, NamedTuple, TypeVar
 
-FORMATS, RULE = (1, 2), 1  # what a server reads; it writes the latter
+FORMAT, RULE = 3, 1  # versions that a server writes
 HEAD = 20  # octets of a frame before its payload
 KEEP = 60  # seconds
 KEPT_ASKS, KEPT_STOPS = 8, 16
 LONGEST_TIME = 86_400  # seconds
-LOG = re.compile(r"log-([1-9]\d*)-([1-9]\d*)")
+LOG = re.compile(r"log-([1-9]\d*)")
+FORMER_LOG = re.compile(r"log-([1-9]\d*)-([1-9]\d*)")  # of a folder of format 1 or 2
 
 T = TypeVar("T")
 
@@ -42,6 +43,19 @@ class Link(NamedTuple):
 SavedBook = tuple[list[Link], int, int, list[tuple[Key, int | None]], list[bytes]]
 
 
+class Header(NamedTuple):
+    """The header of a generation: its number, the number of its table, the boot number, and the moves before it."""
+
+    generation: int
+    table: int
+    boot: int
+    lines: int
+
+
+# of a table each account's name, its places and ports, and its times; and the addresses of its clients
+Table = tuple[list[tuple[bytes, tuple[int, int], tuple[int, ...]]], list[bytes]]
+
+
 class Fault(ValueError):
     """What is wrong with octets, and where."""
 
@@ -61,7 +75,7 @@ class Reader:
     def __init__(self, octets: bytes, accounts: int = 1 << 64, clients: int = 1 << 64) -> None:
         self.octets, self.at = octets, 0
         self.accounts, self.clients = accounts, clients
-        self.bundles = self.late = self.format = 0
+        self.bundles = self.late = 0
 
     def take(self, count: int) -> bytes:
         """So many octets."""
@@ -215,12 +229,11 @@ class Reader:
         """The books of a snapshot."""
         return self.whole(lambda: self.counted(self.book))
 
-    def header(self) -> tuple[int, int, bytes, int]:
-        """Era, generation, digest of the era's table, and lines before."""
-        self.format = self.within(*FORMATS, "another version of the format")
+    def header(self) -> Header:
+        """The header of a generation. Its table follows."""
+        self.within(FORMAT, FORMAT, "another version of the format")
         self.within(RULE, RULE, "another version of the session rule")
-        found = self.number(), self.number(), self.take(16)
-        return *found, self.whole(self.number)
+        return Header(self.number(), self.number(), self.number(), self.number())
 
     def row(self) -> tuple[bytes, tuple[int, int], tuple[int, ...]]:
         """An account of a table: its name, its places and ports, and its times."""
@@ -233,12 +246,11 @@ class Reader:
             raise Fault(begin, "an answer kept for longer than a place")
         return name, limits, tuple(times)
 
-    def table(self) -> tuple[int, int, list[Any], list[bytes]]:
-        """An era's table: its boot number, its shards, its accounts and its clients."""
-        found = self.number(), self.within(1, 4)
+    def table(self) -> Table:
+        """A table, and nothing behind it: its accounts and its clients."""
         rows = self.listed(self.within(1, 16_384), self.row)
         clients = self.listed(self.within(1, 256), lambda: self.take(4))
-        return *found, rows, self.whole(lambda: clients)
+        return self.whole(lambda: (rows, clients))
 
     def whole(self, field: Callable[[], T]) -> T:
         """A field with nothing behind it."""
@@ -331,11 +343,10 @@ class Book:
 
 
 class Books:
-    """The books of all accounts, whose places are given, over some shards."""
+    """The books of all accounts, whose places are given."""
 
-    def __init__(self, places: list[int], shards: int) -> None:
+    def __init__(self, places: list[int]) -> None:
         self.books = [Book(count) for count in places]
-        self.order = [account for shard in range(shards) for account in range(shard, len(places), shards)]
 
     def step(self, move: Move) -> str:
         """The decision of a move."""
@@ -349,14 +360,13 @@ class Books:
         return "done"
 
     def check(self, payload: bytes) -> None:
-        """That a snapshot has these books, shard after shard."""
+        """That a snapshot has these books, in the order of the accounts' numbers."""
         found: list[SavedBook] = Reader(payload).books()
-        if len(found) != len(self.order):
+        if len(found) != len(self.books):
             raise ValueError(f"a snapshot has {len(found)} books")
-        for account, saved in zip(self.order, found):
-            if not self.books[account].is_saved(saved):
-                links = self.books[account].links
-                raise ValueError(f"a snapshot has of account {account} {saved[:3]}, and not {links}")
+        for account, (book, saved) in enumerate(zip(self.books, found)):
+            if not book.is_saved(saved):
+                raise ValueError(f"a snapshot has of account {account} {saved[:3]}, and not {book.links}")
 
     def sessions(self) -> int:
         """How many sessions have a link."""
@@ -411,22 +421,28 @@ def is_spoilt(rest: bytes) -> bool:
     return False
 
 
-def numbers(name: str) -> tuple[int, int]:
-    """The era and the generation of a log."""
+def number_of(name: str) -> int:
+    """The generation of a log."""
     found = LOG.fullmatch(os.path.basename(name))
     assert found is not None, name
-    return int(found[1]), int(found[2])
+    return int(found[1])
+
+
+def order(name: str) -> tuple[int, ...]:
+    """What the names of logs are sorted by. Those of a folder of format 1 or 2 come before all others."""
+    found = FORMER_LOG.fullmatch(name)
+    return (0, int(found[1]), int(found[2])) if found else (1, number_of(name))
 
 
 def logs(state: str) -> list[str]:
     """The paths of the logs of a folder and of its archive, in their order."""
     found = [os.path.join(folder, name) for folder, _, names in os.walk(state) for name in filter(LOG.fullmatch, names)]
-    return sorted(found, key=numbers)
+    return sorted(found, key=number_of)
 
 
-def generations(state: str) -> Iterator[tuple[str, list[bytes]]]:
-    """The logs of a folder that were begun, in their order: path and payloads."""
-    for path in logs(state):
+def generations(state: str, newest_first: bool = False) -> Iterator[tuple[str, list[bytes]]]:
+    """The logs of a folder that were begun, in their order or from the newest on: path and payloads."""
+    for path in sorted(logs(state), key=number_of, reverse=newest_first):
         with open(path, "rb") as file:
             payloads = frames(file.read())
         if len(payloads) >= 2:
@@ -462,21 +478,33 @@ def line_of(name: str, number: int, move: Move, decision: str, host: str) -> str
 
 
 class Replay:
-    """The moves of the first era of a folder, in their order, with the decisions that the books here come to. On the
-    way each header has to be of its file, and to count the moves before it, and each snapshot has to have the books."""
+    """The moves of a folder whose accounts never changed, in their order, with the decisions that the books here come to.
+    On the way each header has to be of its file, and to count the moves before it, each table has to be the first one, with
+    these places, and each snapshot has to have the books."""
 
-    def __init__(self, state: str, places: list[int], shards: int) -> None:
-        self.state, self.books, self.count = state, Books(places, shards), 0
-        with open(os.path.join(state, "era-1"), "rb") as file:
-            self.digest = hashlib.md5(file.read()).digest()
+    def __init__(self, state: str, places: list[int]) -> None:
+        self.state, self.places, self.books, self.count = state, places, Books(places), 0
         self.names = [path for path, _ in generations(state)]
+        self.front: tuple[int, bytes] | None = None  # the boot number, and the octets of the table
+
+    def check_front(self, path: str, payload: bytes) -> None:
+        """The header of a log, and its table."""
+        reader = Reader(payload)
+        found = reader.header()
+        front = found.boot, payload[reader.at :]
+        if self.front is None:
+            self.front = front
+        expected = Header(number_of(path), 1, self.front[0], self.count)
+        if (found, front) != (expected, self.front):
+            raise ValueError(f"the header of {path} is {found}, and not {expected}, or its table is another")
+        rows, _clients = reader.table()
+        if [limits[0] for _name, limits, _times in rows] != self.places:
+            raise ValueError(f"the table of {path} has other places: {rows}")
 
     def __iter__(self) -> Iterator[Found]:
         """Each move: the path of its log, its number, the move and its decision."""
         for path, payloads in generations(self.state):
-            found, expected = Reader(payloads[0]).header(), (*numbers(path), self.digest, self.count)
-            if found != expected:
-                raise ValueError(f"the header of {path} is {found}, and not {expected}")
+            self.check_front(path, payloads[0])
             self.books.check(payloads[1])
             for payload in payloads[2:]:
                 reader = Reader(payload)

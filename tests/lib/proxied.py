@@ -26,6 +26,7 @@ SECRET, PASSWORD = b"secret-of-access-server-1", b"password"
 HOME_SECRET = "secret-of-freeradius-here"
 # no deadline comes, but for that of a kept ask
 HEAD = served.HEAD.format(shards=2, reserve=7200, live=7200, grace=7200, closed=7200, keep=20)
+BEGINS = re.compile(f"{served.GREETING.pattern}|busy")  # what a server says that begins, or does not
 WAIT = 120  # seconds that a start, or an end of all requests, may take
 AGAIN = 1.5  # seconds after which a request is sent again
 # after so many times it rests so many seconds: FreeRADIUS gives up a home only where a request was not sent for six
@@ -286,7 +287,7 @@ class Home:
 
     def greeting(self) -> str | None:
         """What it said when it began."""
-        return next((line for line in reversed(served.text_of(self.said).splitlines()) if re.match("era |busy", line)), None)
+        return next((line for line in reversed(served.text_of(self.said).splitlines()) if BEGINS.match(line)), None)
 
     def lines(self, beginning: str) -> list[str]:
         """The lines that it said which begin so."""

@@ -40,7 +40,7 @@ class Shown:
         assert self.process.stderr is not None
         self.stderr = self.process.stderr
         os.set_blocking(self.stderr.fileno(), False)
-        self.says("^era ")
+        self.says(f"^{served.GREETING.pattern}")
 
     def kill(self) -> None:
         """Kills it."""
@@ -150,7 +150,7 @@ def of_archive(archived: str) -> tuple[list[str], int]:
 
 
 # the oldest goes for the second of HALF octets, and so on
-ARCHIVE = [([f"log-1-{at}" for at in range(max(1, number - 1), number + 1)], True, True) for number in range(1, 6)]
+ARCHIVE = [([f"log-{at}" for at in range(max(1, number - 1), number + 1)], True, True) for number in range(1, 6)]
 
 
 def shown_of_archive(server: Shown, archived: str) -> tuple[list[str], bool, bool]:
@@ -171,6 +171,6 @@ def archive(folder: str) -> list[tuple[list[str], bool, bool]]:
         while (shown := shown_of_archive(server, archived)) != wanted and time.monotonic() < until:
             time.sleep(0.2)
         found.append(shown)
-        os.truncate(os.path.join(archived, f"log-1-{number}"), HALF)
+        os.truncate(os.path.join(archived, f"log-{number}"), HALF)
     server.kill()
     return found

@@ -26,6 +26,8 @@ from tools.build.repository import TOP
 PROGRAM = path_of("rsl_app")
 DAEMON = path_of("radlimitd")
 HOST = "127.0.0.1"
+# what a `radlimitd` says that its start has found, and how many sessions have a place
+GREETING = re.compile(r"(?:new history|generation \d+): (\d+) sessions")
 COUNTS = re.compile(r"^(auth|acct) received (\d+) answered (\d+) dropped (\d+) refused (\d+) unsent (\d+)$", re.M)
 
 # a server refuses an account file that everybody may read

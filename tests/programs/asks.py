@@ -44,7 +44,7 @@ OWN = ['Cisco-AVPair = "a=b"', 'Framed-Route = "192.0.2.0/28"', 'Cisco-AVPair = 
 REASONS = {200: "accepted", 403: "session limit reached\n", 404: "unknown account\n", 423: "account disabled\n"}
 
 HEAD = """version = 3
-shards = 4
+shards = 1
 reserve_secs = 86400
 live_secs = 900
 grace_secs = 60

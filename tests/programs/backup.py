@@ -80,15 +80,15 @@ def read_with(source, state, target):
     """A folder to read a copy in, with the logs that were archived before it was made."""
     os.mkdir(target)
     copied = history.logs(state)
-    earlier = [path for path in history.logs(source) if history.numbers(path) < history.numbers(copied[0])]
-    for path in (*earlier, *copied, os.path.join(state, "era-1")):
+    earlier = [path for path in history.logs(source) if history.number_of(path) < history.number_of(copied[0])]
+    for path in (*earlier, *copied):
         os.link(path, os.path.join(target, os.path.basename(path)))
     return target
 
 
 def first_answers(answered, state, places):
     """That what was answered is in a copy, in its place: how many answers there are, and the books."""
-    replay, waiting = history.Replay(state, places, asking.SHARDS), dict(answered)
+    replay, waiting = history.Replay(state, places), dict(answered)
     for _path, _number, (kind, _moment, account, server, what, _accept, station), decision in replay:
         if server is not None:
             accepted = int(decision.split()[1]) if decision.startswith("accept") else None

@@ -1,11 +1,12 @@
 """Has `radlimitd run` start with an account file that has changed, and looks at what goes on.
 
 Each case has a state folder with random books: sessions and reservations, in bundles and alone, kept asks and stops, of
-accounts at several clients. It is written from docs/FOLDER.md, in either version of the format. The account file that the
-server is started with has some of the accounts and clients, perhaps others, in another order, with other limits and
-times, and over other shards. The log with which the new era begins has to be, octet by octet, what docs/FOLDER.md says of
-a changed account file ("A changed account file"); it is written here from the old books by names and addresses. The
-server has to say how many sessions go on.
+accounts at several clients. It is written from docs/FOLDER.md, in each version of the format: those before the present one
+have a table in a file of its own, and the books shard after shard. The account file that the server is started with has some
+of the accounts and clients, perhaps others, in another order, with other limits and times, and with other shards, which count
+for nothing. The log of the next generation has to begin, octet by octet, as docs/FOLDER.md says of a changed account file ("A
+changed account file"); it is written here from the old books by names and addresses. The server has to say how many sessions
+go on. Where the table is the same, it says nothing of that if the log has the present format, and the table keeps its number.
 
 usage: python3 -m tests.programs.changed [CASES [SEED]]
 CASES is 300, and SEED is 1. It wants the built program.
@@ -32,8 +33,8 @@ SECONDS = served.patience(20)  # that a server may take to start
 
 
 class Accounts:
-    """An account file: its clients by their addresses, its accounts by names with places and ports, its shards and
-    times."""
+    """An account file: its clients by their addresses, its accounts by names with places and ports, its times, and its
+    shards, which a folder of format 1 or 2 has its books by."""
 
     def __init__(self, rng):
         self.clients = rng.sample(ADDRESSES, rng.randint(1, 4))
@@ -42,9 +43,9 @@ class Accounts:
         self.times = rng.choice([(60, 900, 900, 3600, 10), (120, 600, 60, 60, 20)])
 
     def table(self):
-        """The table of its era."""
+        """Its table."""
         rows = [(name.encode(), places, ports) for name, places, ports in self.accounts]
-        return state.table(rows, self.clients, BOOT, self.shards, self.times)
+        return state.table(rows, self.clients, self.times)
 
     def changed(self, rng):
         """Another one: this, with some accounts and clients, other limits, or a part of a new one."""
@@ -67,9 +68,10 @@ class Accounts:
             shards=self.shards, reserve=reserve, keep=keep,
         )
 
-    def order(self):
-        """The names of its accounts, shard after shard."""
-        return [name for shard in range(self.shards) for name, *_ in self.accounts[shard :: self.shards]]
+    def order(self, form=history.FORMAT):
+        """The names of its accounts as a snapshot has their books: in format 1 and 2 shard after shard."""
+        shards = self.shards if form < history.FORMAT else 1
+        return [name for shard in range(shards) for name, *_ in self.accounts[shard::shards]]
 
 
 def random_opening(rng, form):
@@ -107,9 +109,9 @@ def next_numbers(old, new):
     return {number: new.clients.index(address) for number, address in enumerate(old.clients) if address in new.clients}
 
 
-def snapshot(accounts, books):
-    """The snapshot of the books of an account file."""
-    return state.listed([books[name].octets() for name in accounts.order()])
+def snapshot(accounts, books, form=history.FORMAT):
+    """The snapshot of the books of an account file, in this version of the format."""
+    return state.listed([books[name].octets() for name in accounts.order(form)])
 
 
 def started(folder, ports):
@@ -124,39 +126,62 @@ def started(folder, ports):
     return said
 
 
-def said_and_begun(folder):
-    """What a server of this folder says, and the log of the new era. Another program may have a port."""
+def said_and_begun(folder, log):
+    """What a server of this folder says, and the octets of this log, which it has begun. Another program may have a port."""
     for _ in range(10):
         said = started(folder, served.free_ports())
         if f"{served.HOST}:" not in said:
             break
-    log = os.path.join(folder, "state", "log-2-1")
-    if not os.path.exists(log):
+    path = os.path.join(folder, "state", log)
+    if not os.path.exists(path):
         return said, None
-    with open(log, "rb") as file:
+    with open(path, "rb") as file:
         return said, file.read()
+
+
+def before_it(rng, form, old, before):
+    """The files of a folder in this version of the format with these books, the number of the generation that it has, and
+    what the header of the next one has: its generation, the moves before it, and the number of the old table."""
+    table, books = old.table(), snapshot(old, before, form)
+    if form == history.FORMAT:
+        generation, lines, number = rng.randint(1, 300), rng.randint(0, 1 << 40), rng.randint(1, 300)
+        payloads = state.front(generation, table, BOOT, lines, number), books
+        files, following = {f"log-{generation}": payloads}, (generation + 1, lines, number)
+    else:
+        generation, former = rng.randint(1, 9), state.former_table(table, BOOT, old.shards)
+        files = {f"log-1-{generation}": (state.former_header(form, 1, generation, former), books)}
+        # of the table of another version nothing is counted
+        return {"era-1": former, **framed(files)}, generation, (1, 0, 0)
+    return framed(files), generation, following
+
+
+def framed(files):
+    """The octets of files with these payloads."""
+    return {name: b"".join(map(state.frame, payloads)) for name, payloads in files.items()}
 
 
 def tried(seed):
     """What came of a case, and what should."""
     rng = random.Random(seed)
     old = Accounts(rng)
-    new, form = old.changed(rng), rng.choice((1, 2))
+    new, form = old.changed(rng), rng.choice((1, 2, 3))
     before = {name: random_book(rng, form, len(old.clients), limit, ports) for name, limit, ports in old.accounts}
     after = carried.admitted(before, next_numbers(old, new), new.accounts)
     held, gone_on = (sum(book.sessions() for book in books.values()) for books in (before, after))
-    said = f"era 2, new: {gone_on} sessions\naccounts changed: {gone_on} of {held} sessions of era 1 go on\n"
-    frames = [state.header(2, 1, new.table()), snapshot(new, after)]
-    log = b"".join(map(state.frame, [state.header(1, 1, old.table(), form=form), snapshot(old, before)]))
+    files, generation, (following, lines, number) = before_it(rng, form, old, before)
+    said = f"generation {generation}: {gone_on} sessions\n"
+    if form < history.FORMAT or old.table() != new.table():
+        said += f"accounts changed: {gone_on} of {held} sessions go on\n"
+        number += 1
+    frames = [state.front(following, new.table(), BOOT, lines, number), snapshot(new, after)]
     with tempfile.TemporaryDirectory() as folder:
         new.write(os.path.join(folder, "accounts.toml"))
         os.mkdir(os.path.join(folder, "state"), 0o700)
-        for name, octets in (("era-1", old.table()), ("log-1-1", log)):
+        for name, octets in files.items():
             with open(os.path.join(folder, "state", name), "wb") as file:
                 file.write(octets)
-        said_then, begun = said_and_begun(folder)
-    is_same = old.table() == new.table()
-    return (said_then, begun and history.frames(begun)[:2]), (said, frames), is_same
+        said_then, begun = said_and_begun(folder, f"log-{following}")
+    return (said_then, begun and history.frames(begun)[:2]), (said, frames)
 
 
 def main():
@@ -167,8 +192,7 @@ def main():
     seeds = [f"{seed}, {case}" for case in range(cases)]
     with ThreadPoolExecutor(8) as pool:
         found = list(pool.map(tried, seeds))
-    rows = [(name, *row[:2]) for name, row in zip(seeds, found) if not row[2]]
-    served.verdict(rows)
+    served.verdict([(name, *row) for name, row in zip(seeds, found)])
 
 
 main()

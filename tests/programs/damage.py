@@ -17,7 +17,6 @@ It wants Linux and the built program. Where it runs as root, a folder that may n
 
 import collections
 import concurrent.futures
-import hashlib
 import multiprocessing
 import os
 import pwd
@@ -28,17 +27,16 @@ import socket
 import subprocess
 import sys
 import tempfile
+import time
 
 from tests.lib import folder as state_folder, history, served
 
 SECRET, PASSWORD = b"secret of all", b"password"
 PLACES = [3, 1, 0]
-SHARDS = 2
 RESERVE = LIVE = 86_400  # seconds: no deadline comes
 SECONDS = 20  # that a server may take to start, and to end
 WAYS = [lambda octet: octet ^ 1, lambda octet: octet ^ 0x80, lambda octet: (octet + 85) % 256]
 BAD_LOG = "bad log: {} {}\n"
-ERA = "era-1"
 
 # what should come of a folder: what the server says, the status of one that does not start, the log that it goes on
 # from and how many octets of it stay, the books, and the header of the next log
@@ -73,7 +71,7 @@ class Server:
         self.file = served.daemon_file(folder, self.ports, 1)
         accounts = [(f"u{number}", PASSWORD, count, 1) for number, count in enumerate(places)]
         served.account_file(
-            os.path.join(folder, "accounts.toml"), [(served.HOST, SECRET, False)], accounts, shards=SHARDS,
+            os.path.join(folder, "accounts.toml"), [(served.HOST, SECRET, False)], accounts, shards=2,
             reserve=RESERVE, keep=history.KEEP, live=LIVE,
         )
 
@@ -105,7 +103,7 @@ class Server:
                 process.kill()
                 return "nothing within its time", process.wait(), None
             said, answer, status = served.found_line(process), None, None
-            if said.startswith("era "):
+            if served.GREETING.match(said):
                 answer = self.ask(b"status")
                 status = process.poll()
                 process.kill()
@@ -200,7 +198,7 @@ class Folder:
 
     def logs(self):
         """The names of its logs, the newest first."""
-        return sorted(filter(history.LOG.fullmatch, self.files), key=history.numbers, reverse=True)
+        return sorted(filter(is_log, self.files), key=history.order, reverse=True)
 
     def frames(self, name):
         """The payloads of a log, or BadLog."""
@@ -221,16 +219,32 @@ class Folder:
         except history.Fault as fault:
             raise fault.behind(history.HEAD) from None
 
-    def check_header(self, name, header):
-        """That a header is of its file's name and of the table."""
-        if header[:2] != history.numbers(name):
+    @staticmethod
+    def check_header(name, header):
+        """That a header is of its file's name."""
+        if header.generation != history.number_of(name):
             raise history.Fault(history.HEAD, "a header of another generation")
-        if header[2] != hashlib.md5(self.files[ERA]).digest():
-            raise history.Fault(history.HEAD, "a header of another table")
+
+    def table(self, payloads):
+        """The table behind a header. It is that of the account file, or an account file could have it."""
+        reader = history.Reader(payloads[0])
+        reader.header()
+        begin = reader.at
+        try:
+            table = reader.table()
+        except history.Fault as fault:
+            raise fault.behind(history.HEAD) from None
+        if not is_configured(table):
+            raise history.Fault(history.HEAD + begin, "a table that no account file has")
+        return table
+
+    def configured(self):
+        """The octets of the table of the account file."""
+        return next(table_octets(history.frames(self.before[name])[0]) for name in filter(is_log, self.before))
 
     def batches(self, name, payloads, table):
         """The moves of each batch of a log, and what was wrong behind the last."""
-        _boot, _shards, rows, clients = table
+        rows, clients = table
         limits, at, found = (len(rows), len(clients)), history.HEAD + len(payloads[0]), []
         try:
             for place, payload in enumerate(payloads[1:]):
@@ -247,22 +261,17 @@ class Folder:
 
     @staticmethod
     def check_snapshot(books, rows):
-        """That a snapshot fits the accounts, which are numbered shard after shard."""
+        """That a snapshot fits the accounts, in the order of their numbers."""
         if len(books) != len(rows):
             raise history.Fault(0, "not one book for each account")
-        order = [number for shard in range(SHARDS) for number in range(shard, len(rows), SHARDS)]
-        for number, (links, _number, _over, asks, stops) in zip(order, books):
+        for (_name, limits, _times), (links, _number, _over, asks, stops) in zip(rows, books):
             for is_over, cause in (
                 (len(asks) > history.KEPT_ASKS, "too many asks"),
                 (len(stops) > history.KEPT_STOPS, "too many stops"),
-                (len(links) > rows[number][1][0], "too many places"),
+                (len(links) > limits[0], "too many places"),
             ):
                 if is_over:
                     raise history.Fault(0, cause)
-
-    def table(self):
-        """The era's table."""
-        return history.Reader(self.files[ERA]).table()
 
     def start(self):
         """What should come of a start, by docs/FOLDER.md."""
@@ -275,21 +284,17 @@ class Folder:
         except history.Fault as fault:
             return Ending(BAD_LOG.format(name, fault), 1)
         logs = self.logs()
-        if any(history.numbers(log)[1] > 1 for log in logs):
+        numbers = [history.number_of(log) for log in filter(history.LOG.fullmatch, logs)]
+        former = [log for log in logs if history.FORMER_LOG.fullmatch(log)]
+        if (numbers and 1 not in numbers) or any(history.order(log)[2] > 1 for log in former):
             return Ending(BAD_LOG.format(logs[0], "at 0: no whole snapshot, here or earlier"), 1)
-        era = 1 + max(history.numbers(log)[0] for log in [*logs, "log-1-1"])
-        books = history.Books(PLACES, SHARDS)
-        return Ending(f"era {era}, new: 0 sessions\n", 0, None, None, books, (era, 1, 0))
+        header = history.Header(1 + max(numbers, default=0), 1, None, 0)
+        return Ending("new history: 0 sessions\n", 0, None, None, history.Books(PLACES), header)
 
     def go_on(self, name, payloads, header):
         """The same of one that goes on from a log."""
-        era, generation = history.numbers(name)
-        try:
-            table = self.table()
-        except history.Fault as fault:
-            return Ending(BAD_LOG.format(ERA, fault), 1)
         self.check_header(name, header)
-        batches, fault = self.batches(name, payloads, table)
+        batches, fault = self.batches(name, payloads, self.table(payloads))
         if fault:
             raise fault
         books, count = self.books(name), 0
@@ -299,16 +304,17 @@ class Folder:
                 books.step(move)
         whole = history.whole_len(payloads)
         torn = len(self.files[name]) - whole
-        said = f"era {era}, generation {generation}: {books.sessions()} sessions"
+        said = f"generation {header.generation}: {books.sessions()} sessions"
         said += f", torn end of {torn} octets cut off\n" if torn else "\n"
-        number = 1 + max(history.numbers(log)[1] for log in self.logs())
-        return Ending(said, 0, name, whole, books, (era, number, header[3] + count))
+        number = 1 + max(map(history.number_of, filter(history.LOG.fullmatch, self.files)))
+        following = header._replace(generation=number, lines=header.lines + count)
+        return Ending(said, 0, name, whole, books, following)
 
     def books(self, name):
         """The books before a log: the replay of the logs before it, as they were."""
-        books = history.Books(PLACES, SHARDS)
-        for other in sorted(filter(history.LOG.fullmatch, self.before), key=history.numbers):
-            if history.numbers(other) < history.numbers(name):
+        books = history.Books(PLACES)
+        for other in sorted(filter(is_log, self.before), key=history.order):
+            if history.order(other) < history.order(name):
                 for payload in history.frames(self.before[other])[2:]:
                     for move in history.Reader(payload).moves():
                         books.step(move)
@@ -317,15 +323,10 @@ class Folder:
     def lines(self, name):
         """What `radlimitd lines` should print of a log, say and end with."""
         try:
-            table = self.table()
-        except history.Fault as fault:
-            return "", BAD_LOG.format(ERA, fault), 1
-        if not is_configured(table):
-            return "", BAD_LOG.format(ERA, "at 0: a table that no account file has"), 1
-        try:
             payloads, header = self.header(name)
             if header:
                 self.check_header(name, header)
+                table = self.table(payloads)
         except history.Fault as fault:
             return "", BAD_LOG.format(name, fault), 1
         batches, fault = self.batches(name, payloads, table) if header else ([], None)
@@ -337,23 +338,36 @@ class Folder:
 
     def printed(self, name, header, batches):
         """The lines of the moves of a log."""
-        books, number, printed = self.books(name), header[3] if header else 0, ""
+        books, number, printed = self.books(name), header.lines if header else 0, ""
         for move in (move for batch in batches for move in batch):
             number += 1
             printed += history.line_of(name, number, move, books.step(move), served.HOST) + "\n"
         return printed
 
 
+def is_log(name):
+    """Whether a file is a log by its name, also one of a version before."""
+    return history.LOG.fullmatch(name) or history.FORMER_LOG.fullmatch(name)
+
+
+def table_octets(payload):
+    """The octets of the table in the first payload of a log."""
+    reader = history.Reader(payload)
+    reader.header()
+    return payload[reader.at :]
+
+
 def is_configured(table):
     """Whether an account file has a table: the times that are of all accounts are the same, and no name and no address
     comes twice."""
-    _boot, _shards, rows, clients = table
+    rows, clients = table
     shared = {(times[0], times[3], times[4]) for _name, _limits, times in rows}
     return len(shared) == 1 and len({row[0] for row in rows}) == len(rows) and len(set(clients)) == len(clients)
 
 
-def outcome(server, expected, before):
-    """What came of a start, in the same words."""
+def outcome(server, changed, before):
+    """What came of a start in a folder of which some files were changed, and what should, in the same words."""
+    expected = changed.start()
     said, status, answer = server.run()
     after = files_of(server.state)
     after.setdefault("lock", b"")
@@ -361,17 +375,15 @@ def outcome(server, expected, before):
         unchanged = after == {"lock": b"", **before}
         return (said, status, unchanged), (expected.said, expected.status, True)
     found = {name: octets for name, octets in after.items() if name not in before or octets != before[name]}
-    era, number, lines = expected.header or (0, 0, 0)
-    log, table = f"log-{era}-{number}", after.get(f"era-{era}")
+    number = expected.header.generation if expected.header else 0
+    log = f"log-{number}"
     wanted = {log}
     if expected.log and expected.whole < len(before[expected.log]):
         wanted.add(expected.log)
-    if expected.log is None:
-        wanted.add(f"era-{era}")
     cut = after.get(expected.log) if expected.log in found else None
     if "lock" not in before:
         wanted.add("lock")
-    problem = wrong_log(after.get(log, b""), expected.books, (era, number, table, lines))
+    problem = wrong_log(after.get(log, b""), expected.books, expected.header, changed.configured())
     is_cut = cut is None or cut == before[expected.log][: expected.whole]
     totals = "".join(answer.partition(f"generation {number:11}\n")[2].splitlines(True)[:7])
     return (
@@ -380,15 +392,19 @@ def outcome(server, expected, before):
     )
 
 
-def wrong_log(octets, books, expected):
-    """What is wrong with the first two frames of a new log, if anything."""
-    payloads, (era, number, table, lines) = history.frames(octets), expected
+def wrong_log(octets, books, expected, table):
+    """What is wrong with the first two frames of a new log, if anything. The boot number of a new history is the moment."""
+    payloads = history.frames(octets)
     try:
-        header = history.Reader(payloads[0]).header()
-        if header != (era, number, hashlib.md5(table).digest(), lines):
-            return f"a header {header}"
+        found = history.Reader(payloads[0]).header()
+        if expected.boot is None and abs(time.time() - found.boot) < 4 * SECONDS:
+            expected = expected._replace(boot=found.boot)
+        if found != expected:
+            return f"{found}, and not {expected}"
+        if table_octets(payloads[0]) != table:
+            return "another table"
         books.check(payloads[1])
-    except (ValueError, IndexError, TypeError) as problem:
+    except (ValueError, IndexError, AttributeError) as problem:
         return str(problem)
     return None
 
@@ -398,48 +414,55 @@ def tried(server, case):
     name, before, files, log = case
     changed = Folder(before, files)
     server.put(files)
-    found, expected = outcome(server, changed.start(), files)
+    found, expected = outcome(server, changed, files)
     if log in files:
         server.put(files)
         return name, (found, server.lines(log)), (expected, changed.lines(log))
     return name, found, expected
 
 
+def fault_read(changed, log):
+    """What is said of a log whose digests are right, if anything."""
+    try:
+        payloads, header = changed.header(log)
+        changed.check_header(log, header)
+        fault = changed.batches(log, payloads, changed.table(payloads))[1]
+    except history.Fault as found:
+        fault = found
+    return BAD_LOG.format(log, fault) if fault else None
+
+
 def well_read(server, case):
-    """The same of one whose digests were made right: where nothing is wrong with what is spelled, the server starts, or
-    says that the books are none."""
+    """The same of one whose digests were made right: where nothing is wrong with what is spelled, the server starts, and
+    says so where the table is not that of the account file."""
     name, before, files, log = case
     changed = Folder(before, files)
     server.put(files)
-    try:
-        table = changed.table()
-        payloads, header = changed.header(log)
-        changed.check_header(log, header)
-        fault = changed.batches(log, payloads, table)[1]
-    except history.Fault as found:
-        fault = found
+    fault = fault_read(changed, log)
     said, status, _answer = server.run()
     if fault:
-        expected = BAD_LOG.format(log, fault), 1, files
+        expected = fault, 1, files
         found = files_of(server.state)
         found.setdefault("lock", b"")
         return name, (said, status, found), (*expected[:2], {"lock": b"", **files})
-    return name, (said.startswith("era 1, generation "), status), (True, None)
+    is_other = table_octets(history.frames(files[log])[0]) != changed.configured()
+    found = said.startswith(f"generation {history.number_of(log)}: "), "\naccounts changed: " in said
+    return name, (*found, status), (True, is_other, None)
 
 
 def changes(before):
     """A folder for each octet and each way to change it, and the log that is looked at by `lines`."""
-    newest = max(filter(history.LOG.fullmatch, before), key=history.numbers)
+    newest = max(filter(is_log, before), key=history.order)
     for name, octets in before.items():
         for at, octet in enumerate(octets):
             for way, change in enumerate(WAYS):
                 files = {**before, name: octets[:at] + bytes([change(octet)]) + octets[at + 1 :]}
-                yield f"{name}, octet {at}, way {way}", before, files, name if name != ERA else newest
+                yield f"{name}, octet {at}, way {way}", before, files, name if is_log(name) else newest
 
 
 def right_changes(before):
     """A folder for each octet of the payloads of its newest log, changed in one way, with a right digest."""
-    newest = max(filter(history.LOG.fullmatch, before), key=history.numbers)
+    newest = max(filter(is_log, before), key=history.order)
     payloads = history.frames(before[newest])
     for place, payload in enumerate(payloads):
         for at, octet in enumerate(payload):
@@ -450,7 +473,7 @@ def right_changes(before):
 
 def whole_changes(before):
     """Folders of which whole files or ends are changed."""
-    first, second = sorted(filter(history.LOG.fullmatch, before), key=history.numbers)
+    first, second = sorted(filter(is_log, before), key=history.order)
     payloads = history.frames(before[second])
     heads = history.whole_len(payloads[:2])
 
@@ -464,20 +487,40 @@ def whole_changes(before):
     yield folder("no newest log", {}, second, log=first)
     yield folder("no first log", {}, first)
     yield folder("no log at all", {}, first, second)
-    yield folder("a log of no octets behind the newest", {"log-1-9": b""})
-    yield folder("other names", {"log-1-03": b"x", "log-1-": b"x", "era-01": b"x", "notes": b"x", "log-1-2x": b"x"})
-    yield folder("the newest log under another number", {"log-1-7": before[second]}, second, log="log-1-7")
+    yield folder("a log of no octets behind the newest", {"log-9": b""})
+    names = "log-03", "log-", "log-2x", "log-1-", "log-1-02", "era-01", "notes"
+    yield folder("other names", dict.fromkeys(names, b"x"))
+    yield folder("the newest log under another number", {"log-7": before[second]}, second, log="log-7")
+    yield folder("the same with a torn end", {"log-7": before[second] + b"x"}, second, log="log-7")
     yield folder("the first log under the newest one's name", {second: before[first]})
-    yield folder("an empty table", {ERA: b""})
     yield folder("an empty newest log", {second: b""})
     yield folder("a snapshot that is cut, and nothing earlier", {second: before[second][: heads - 1]}, first)
     yield folder("a snapshot that is cut", {second: before[second][: heads - 1]})
+    yield folder("a first log that was not begun, and none later", {first: b""}, second, log=first)
+    yield folder("two logs that were not begun, the first among them", {first: b"", second: before[first][:9]})
+    yield folder("two logs that were not begun, and no first one", {second: b"", "log-9": b""}, first)
+    yield from former_files(folder, first, second)
     for cut in range(1, len(before[second])):
         yield folder(f"the newest log cut at {cut}", {second: before[second][:cut]})
-    for at in (0, 1):
-        header = payloads[0][:at] + b"\x02" + payloads[0][at + 1 :]
-        octets = b"".join(map(state_folder.frame, [header, *payloads[1:]]))
-        yield folder(f"version {at} of the header", {second: octets})
+
+    def beginning(payload):
+        return {second: b"".join(map(state_folder.frame, [payload, *payloads[1:]]))}
+
+    front = payloads[0]
+    yield folder("a header with no table", beginning(front[: len(front) - len(table_octets(front))]))
+    yield folder("a table with an octet more", beginning(front + b"\0"))
+    for at, version in ((0, b"\x02"), (0, b"\x04"), (1, b"\x02")):
+        yield folder(f"version {version[0]} at {at} of the header", beginning(front[:at] + version + front[at + 1 :]))
+
+
+def former_files(folder, first, second):
+    """The same of files with the names of a version before, none of which counts beside a generation that was begun."""
+    yield folder("files of before", {"log-1-2": b"", "era-1": b"x"})
+    yield folder("a first log of before, not begun, and no other", {"log-1-1": b""}, first, second)
+    yield folder("a first log of before and a first one, neither begun", {"log-1-1": b"", first: b""}, second)
+    yield folder("first logs of before of two eras, not begun", {"log-1-1": b"", "log-2-1": b""}, first, second)
+    yield folder("a later log of before, not begun, and no other", {"log-1-2": b""}, first, second)
+    yield folder("a later log of before and a first one, neither begun", {"log-1-2": b"", first: b""}, second, log=first)
 
 
 def nobody():
@@ -500,14 +543,12 @@ def as_nobody(file):
 def odd_folders(folder, before):
     """What comes of folders that a change of their files does not make, and what should."""
     server = Server(folder)
-    first, second = sorted(filter(history.LOG.fullmatch, before), key=history.numbers)
+    first, second = sorted(filter(is_log, before), key=history.order)
     for name, status, said, more, less in (
-        ("a table that is not there", 2, "era-1: cannot be opened\n", {}, ERA),
-        ("a folder for a table", 2, "era-1: cannot be read\n", {ERA: None}, None),
         ("a folder for the newest log", 2, f"{second}: cannot be opened\n", {second: None}, None),
-        ("a folder for an earlier log", None, "era 1, generation 2", {first: None}, None),
+        ("a folder for an earlier log", None, "generation 2: ", {first: None}, None),
         ("a folder for a lock", 2, "bad folder: cannot be locked\n", {"lock": None}, None),
-        ("a log with the last number", 1, "no number is left for a new file\n", {f"log-1-{2**64 - 1}": b""}, None),
+        ("a log with the last number", 1, "no number is left for a new file\n", {f"log-{2**64 - 1}": b""}, None),
     ):
         files = {key: octets for key, octets in {**before, **more}.items() if key != less}
         server.put(files)
@@ -522,8 +563,8 @@ def odd_folders(folder, before):
     written(server.file.replace("radlimitd.toml", "accounts.toml"), other_accounts(folder))
     sessions = Folder(before, before).start().books.sessions()
     found = *server.run()[:2], sorted(set(files_of(server.state)) - set(before))
-    said = f"era 2, new: {sessions} sessions\naccounts changed: {sessions} of {sessions} sessions of era 1 go on\n"
-    yield "another account file", found, (said, None, ["era-2", "log-2-1"])
+    said = f"generation 2: {sessions} sessions\naccounts changed: {sessions} of {sessions} sessions go on\n"
+    yield "another account file", found, (said, None, ["log-3"])
     yield from guarded_folders(server, before)
 
 
@@ -543,8 +584,7 @@ def guarded_folders(server, before):
         shutil.chown(accounts, "nobody")
     for name, modes, said in (
         ("a folder that its owner may not write to", {"": 0o500}, f"{server.state}/control: cannot be bound: permission denied\n"),
-        ("a log that its owner may not read", {"log-1-2": 0}, "log-1-2: cannot be opened\n"),
-        ("a table that its owner may not read", {ERA: 0}, "era-1: cannot be opened\n"),
+        ("a log that its owner may not read", {"log-2": 0}, "log-2: cannot be opened\n"),
         ("a lock that its owner may not open", {"lock": 0}, "bad folder: cannot be locked\n"),
     ):
         server.put(before)
@@ -568,12 +608,12 @@ def original_accounts(server):
 def mended_folders(folder, before):
     """What comes of damaged files that are mended as docs/OPERATING.md says, and what should."""
     server = Server(folder)
-    newest = max(filter(history.LOG.fullmatch, before), key=history.numbers)
+    newest = max(filter(is_log, before), key=history.order)
     payloads = history.frames(before[newest])
-    table, third = before[ERA], history.whole_len(payloads[:3])
+    third, table = history.whole_len(payloads[:3]), history.whole_len(payloads[:1]) - len(table_octets(payloads[0]))
     for name, file, at in (
         ("a record that is cut off", newest, third + history.HEAD), ("a header whose log is taken away", newest, 30),
-        ("a table that is put back", ERA, 5),
+        ("a table whose log is taken away", newest, table + 5),
     ):
         octets = before[file]
         files = {**before, file: octets[:at] + bytes([octets[at] ^ 0x80]) + octets[at + 1 :]}
@@ -581,14 +621,12 @@ def mended_folders(folder, before):
         said, status, _answer = server.run()
         offset = re.fullmatch(rf"bad log: {file} at (\d+): .*\n", said)
         yield f"{name}: it is named", (bool(offset), status), (True, 1)
-        if file == ERA:
-            files[ERA] = table
-        elif at < history.whole_len(payloads[:2]):
+        if at < history.whole_len(payloads[:2]):
             del files[newest]
         else:
             files[newest] = files[newest][: int(offset[1])]
         server.put(files)
-        found, expected = outcome(server, Folder(before, files).start(), files)
+        found, expected = outcome(server, Folder(before, files), files)
         yield f"{name}: the server goes on", found, expected
 
 

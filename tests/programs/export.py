@@ -1,6 +1,6 @@
 """Has `radlimitd export` print the sessions of state folders, and compares them with those that are found here.
 
-First histories by chance, over some eras and generations: moves, with ticks, restarts, some of them told late, bundles,
+First histories by chance, over some generations: moves, with ticks, restarts, some of them told late, bundles,
 stations, late and early moments, and account files that changed. Books that step at every tick, written from
 docs/SESSION-RULE.md, are looked at before and after each move, and say when each session began, was last seen and ended,
 and why. Some of the logs are in the archive. Then single cases of folders, and at last a server whose sessions end in each
@@ -153,7 +153,7 @@ class History:
         os.makedirs(os.path.join(folder, "archive"))
         self.clients = CLIENTS[:2]
         self.accounts = {name: Account(name, rng.randrange(1, 4), rng.choice((1, 2))) for name in NAMES[:3]}
-        self.era, self.generation, self.lines, self.latest, self.ended = 1, 0, 0, 0, []
+        self.generation, self.tables, self.lines, self.latest, self.ended = 0, 1, 0, 0, []
         self.skipped = rng.random() < 0.2  # the first log is not there any more
 
     def server(self):
@@ -214,28 +214,24 @@ class History:
 
     def table(self):
         rows = [(name, book.limit, book.ports) for name, book in self.accounts.items()]
-        return state.table(rows, self.clients, FIRST, 1, (RESERVE, LIVE, GRACE, CLOSED, KEEP))
+        return state.table(rows, self.clients, (RESERVE, LIVE, GRACE, CLOSED, KEEP))
 
     def generate(self):
-        """The next generation of the era."""
+        """The next generation."""
         self.generation += 1
-        table = self.table()
-        frames = [state.header(self.era, self.generation, table, self.lines), self.books()]
+        frames = [state.front(self.generation, self.table(), FIRST, self.lines, self.tables), self.books()]
         for _ in range(self.rng.randrange(1, 30)):
             batch = [self.move() for _ in range(self.rng.randrange(1, 5))]
             self.lines += len(batch)
             frames.append(state.listed(batch))
-        path = os.path.join(self.folder, f"era-{self.era}")
-        with open(path, "wb") as file:
-            file.write(table)
-        self.log = "".join(("archive/" if self.rng.random() < 0.6 else "", f"log-{self.era}-{self.generation}"))
+        self.log = "".join(("archive/" if self.rng.random() < 0.6 else "", f"log-{self.generation}"))
         with open(os.path.join(self.folder, self.log), "wb") as file:
             file.write(b"".join(map(state.frame, frames)))
 
     def change(self):
         """Another account file: accounts come and go, and have other places, and so do clients."""
         latest = self.latest = max(self.latest, *(book.clock for book in self.accounts.values()))
-        before = {name: (book, book.bound()) for name, book in self.accounts.items()}
+        before, table = {name: (book, book.bound()) for name, book in self.accounts.items()}, self.table()
         kept = [name for name in NAMES if self.rng.random() < 0.7] or NAMES[:1]
         self.rng.shuffle(kept)
         self.clients = self.rng.sample(CLIENTS, self.rng.randrange(1, 4))
@@ -248,7 +244,7 @@ class History:
             left = accounts[name].bound() if name in accounts else {}
             self.ended += [book.row(one, seen, latest, "changed") for one, seen in bound.items() if one not in left]
         self.accounts = accounts
-        self.era, self.generation, self.lines = self.era + 1, 0, 0
+        self.tables += self.table() != table
 
     def forget(self):
         """Takes the first log away: what it held at its end has no beginning."""
@@ -390,9 +386,6 @@ def cases_of_folders(rng):
             run = subprocess.run([served.DAEMON, "export", "--csv", file], stdout=full, stderr=subprocess.PIPE, check=False)
         yield "a full disk", (run.returncode, run.stderr), (2, b"input or output fault\n")
         yield "a server that runs", *locked(path, file)
-        os.rename(os.path.join(path, "era-1"), os.path.join(path, "era-9"))
-        missing = f"{path}/era-1: no such file\n"
-        yield "no table", exported(file), ("", (missing, 1))
 
 
 def locked(path, file):
@@ -444,7 +437,7 @@ class Asker:
 def account_file(folder, names):
     """The account file of a server whose sessions end soon."""
     accounts = [(name, served.PASSWORD, 1, 1) for name in names]
-    times = {"shards": 2, "reserve": 3, "live": 2, "grace": 6, "closed": 60, "keep": 1}
+    times = {"shards": 1, "reserve": 3, "live": 2, "grace": 6, "closed": 60, "keep": 1}
     clients = [(served.HOST, served.SECRET, False)]
     return served.account_file(os.path.join(folder, "accounts.toml"), clients, accounts, **times)
 

@@ -13,11 +13,11 @@ told, once, and that it is over.
 A clock that goes back is shown until it is there again, and no deadline passes meanwhile. An archive that may have a
 megabyte has the newest logs, and the server shows how many.
 
-Then the same calls of a start fail whose account file has changed: a start behind it goes on with what the old era had,
-or in the new one. And those of a server that reads such a file while it runs: it goes on with what it has, and reads it
+Then the same calls of a start fail whose account file has changed: a start behind it goes on from the generation before the
+change, or from the one that began with it. And those of a server that reads such a file while it runs: it goes on with what it has, and reads it
 once more when it is asked again; or it has ended, and the next start goes on.
 
-And in the log of such an era, and in that of a second life, every sync fails from some time on: the life ends with 4,
+And in the log of such a change, and in that of a second life, every sync fails from some time on: the life ends with 4,
 and where each batch is synced it has answered nothing new. The same in the log of a roll, with each policy of `sync`:
 where a tick syncs, it has answered all until that tick, and where nothing does, it goes on.
 
@@ -46,6 +46,7 @@ SECONDS = served.patience(60)  # that a life may take; one that can make no thre
 TOLD = 30  # in which a later tick tells of a write, and less than an ask is kept
 SAYS = 2.5  # seconds within which it has said what it was asked to do
 TICKS = 600  # of a generation, after which the next one begins
+GREETING = rf"{served.GREETING.pattern}.*\n"  # of a start
 UNRECORDED = "not recorded, and so not answered: the disk is full or fails, or memory is refused\n"
 RECORDED = "recorded again\n"
 ALL_WELL = None, ""
@@ -114,9 +115,9 @@ class Case:
         life.wait()
         said += (life.stderr.read() or b"").decode()
         life.stderr.close()
-        return answers, status, besides(said, r"\Aera .*\n(accounts changed: .*\n)?")
+        return answers, status, besides(said, rf"\A{GREETING}(accounts changed: .*\n)?")
 
-    def await_tick(self, name="log-1-1"):
+    def await_tick(self, name="log-1"):
         """Waits for the next tick to be recorded in a log."""
         log = os.path.join(self.folder, "state", name)
         size, until = os.path.getsize(log), time.monotonic() + SECONDS
@@ -183,36 +184,36 @@ def tried_reload(library, call, nth, error, ends):
         # what it says is written each second
         time.sleep(0 if ends else SAYS)
         life.kill()
-        said = besides(life.communicate()[1].decode(), r"\Aera .*\n")
+        said = besides(life.communicate()[1].decode(), rf"\A{GREETING}")
         after, went_on, quiet = case.life()
         case.server.close()
         is_whole = before == after and went_on is None and not quiet
         return (*answer[:2], status, said), status is not None or again == before, then[0], is_whole, case.moves()
 
 
-def tried_later(library, sync, is_era):
-    """What came of a life that has answered all, in the log of an era that it has begun or in that of a second life,
+def tried_later(library, sync, is_change):
+    """What came of a life that has answered all, in the log of a change of accounts or in that of a second life,
     when every sync fails then: the status, what it said, how much of what was asked then it answered, and whether a life
     behind it answers as before."""
     with tempfile.TemporaryDirectory() as folder:
         case, during = Case(folder, library, sync), os.path.join(folder, "failing")
-        if not is_era:
+        if not is_change:
             case.life()
         life, _ = case.begun("fdatasync", 0, errno.EIO, during=during)
         before = case.server.ask(case.ports, life, SECONDS)
-        if is_era:
+        if is_change:
             case.write(PLACES + 1)
             served.asked("reload", case.file)
         late = served.Repeater(list(requests(REQUESTS)), SECRET)
         # with a sync a second, what comes now is answered before the next one
-        case.await_tick("log-2-1" if is_era else "log-1-2")
+        case.await_tick("log-2")
         with open(during, "wb"):
             answered = late.ask(case.ports, life, SECONDS)
         with contextlib.suppress(subprocess.TimeoutExpired):
             life.wait(SECONDS)
         status = life.poll()
         life.kill()
-        said = besides(life.communicate()[1].decode(), r"^era .*\n|^accounts .*\n")
+        said = besides(life.communicate()[1].decode(), rf"^{GREETING}|^accounts .*\n")
         after, *went_on = case.life()
         late.close()
         case.server.close()
@@ -221,9 +222,9 @@ def tried_later(library, sync, is_era):
 
 
 def later():
-    """What is tried with a later log: its name, the policy of `sync`, and whether an era begins the log."""
+    """What is tried with a later log: its name, the policy of `sync`, and whether a change of accounts begins the log."""
     for sync in ("always", "second"):
-        yield f"{sync}: each sync of a new era fails", sync, True
+        yield f"{sync}: each sync behind a change fails", sync, True
         yield f"{sync}: each sync of a second life fails", sync, False
 
 
@@ -244,17 +245,17 @@ def tried_roll(library, sync):
         life, _ = case.begun("fdatasync", 0, errno.EIO, during=during, SLEEPS=str(TICKS - 1), UNTIL=until)
         before = case.server.ask(case.ports, life, SECONDS)
         state = os.path.join(folder, "state")
-        awaited(lambda: os.path.exists(os.path.join(state, "archive", "log-1-1")))
+        awaited(lambda: os.path.exists(os.path.join(state, "archive", "log-1")))
         late, sizes = served.Repeater(list(requests(REQUESTS)), SECRET), set()
         with open(during, "wb"):
             answered = late.ask(case.ports, life, SECONDS)
         # it has ended, or a tick comes behind one that was recorded
         with open(until, "wb"):
-            log = os.path.join(state, "log-1-2")
+            log = os.path.join(state, "log-2")
             awaited(lambda: life.poll() is not None or sizes.add(os.path.getsize(log)) or len(sizes) > 2)
         status = life.poll()
         life.kill()
-        said = besides(life.communicate()[1].decode(), r"^era .*\n")
+        said = besides(life.communicate()[1].decode(), rf"^{GREETING}")
         after, *went_on = case.life()
         late.close()
         case.server.close()
@@ -270,8 +271,8 @@ ROLLED = {
 }
 
 
-# what a server answers, and says, that has read a file in the end. The table of the era that did not begin stays
-READ = "era 3: 4 of 4 sessions of era 1 go on\n"
+# what a server answers, and says, that has read a file in the end
+READ = "4 of 4 sessions go on\n"
 
 
 # the errors of a write, and what is said of them
@@ -283,34 +284,34 @@ UNWRITTEN = (
 def reloads():
     """What is tried with an account file that a server reads while it runs: its name, the call that fails with its number
     and error; what it answers then, how it ends and what it has said, and what it answers when nothing fails."""
-    # 1 is the table, 2 its name, 3 that of the log, and 4 the log once it has begun
-    for nth, file in ((1, "era-2"), (2, "era-2"), (3, "log-2-1"), (4, "bad folder")):
-        answer = "", f"no new era yet: {file}: cannot be synced\n", None, f"accounts read anew: {READ}"
+    # 1 is the name of the log, and 2 the log once it has begun
+    for nth, file in ((1, "log-2"), (2, "bad folder")):
+        answer = "", f"no change yet: {file}: cannot be synced\n", None, f"accounts read anew: {READ}"
         yield f"reload: sync {nth} of a file or name fails", ("fsync", nth, errno.EIO), answer, READ
     # the header and the snapshot
     for nth in (1, 2):
-        answer = "", "no new era yet: cannot be synced\n", None, f"accounts read anew: {READ}"
+        answer = "", "no change yet: cannot be synced\n", None, f"accounts read anew: {READ}"
         yield f"reload: sync {nth} of a log fails", ("fdatasync", nth, errno.EIO), answer, READ
         for error, cause in UNWRITTEN:
-            answer = "", f"no new era yet: {cause}\n", None, f"accounts read anew: {READ}"
+            answer = "", f"no change yet: {cause}\n", None, f"accounts read anew: {READ}"
             yield f"reload: write {nth} gives {errno.errorcode[error]}", ("pwrite", nth, error), answer, READ
-    answer = "", "no new era yet: nothing more can be recorded\n", 4, "the disk cannot be synced\n"
-    yield "reload: a log is not synced and not removed", ("fsync", -4, errno.EIO), answer, ""
+    answer = "", "no change yet: nothing more can be recorded\n", 4, "the disk cannot be synced\n"
+    yield "reload: a log is not synced and not removed", ("fsync", -2, errno.EIO), answer, ""
 
 
 def changed():
     """What is tried with an account file that has changed: its name, the call that fails with its number and error, and
     how the life should end."""
-    # 1 is the table, 2 its name, 3 that of the log, and 4 the log once it has begun
-    for nth, file in ((1, "era-2"), (2, "era-2"), (3, "log-2-1"), (4, "log-2-1")):
-        ending = 4, f"{file}: cannot be synced\n"
+    # 1 is the name of the log, and 2 the log once it has begun
+    for nth in (1, 2):
+        ending = 4, "log-2: cannot be synced\n"
         yield f"changed accounts: sync {nth} of a file or name fails", ("fsync", nth, errno.EIO), ending
     # 1 is the log that was opened, 2 and 3 are the header and the snapshot
-    for nth, file in ((1, "log-1-1"), (2, "log-2-1"), (3, "log-2-1")):
+    for nth, file in ((1, "log-1"), (2, "log-2"), (3, "log-2")):
         ending = 4, f"{file}: cannot be synced\n"
         yield f"changed accounts: sync {nth} of a log fails", ("fdatasync", nth, errno.EIO), ending
     for nth in (1, 2):
-        ending = 2, "log-2-1: no room on the disk\n"
+        ending = 2, "log-2: no room on the disk\n"
         yield f"changed accounts: write {nth} fails", ("pwrite", nth, errno.ENOSPC), ending
 
 
@@ -330,16 +331,13 @@ def cases():
     yield "every thread fails", ("pthread_create", 0, errno.EAGAIN, None), (2, "no thread for each receiver\n")
     yield "the clock fails at the start", ("clock_gettime", 1, errno.EINVAL, None), (2, "input or output fault\n")
     yield "the clock fails later", ("clock_gettime", 3, errno.EINVAL, None), ALL_WELL
-    # 1 is the table, 2 its name, and 3 that of the log
-    yield "a table is not synced", ("fsync", 1, errno.EIO, None), (4, "era-1: cannot be synced\n")
-    yield "the name of a table is not synced", ("fsync", 2, errno.EIO, None), (4, "era-1: cannot be synced\n")
-    yield "the name of a log is not synced", ("fsync", 3, errno.EIO, None), (4, "log-1-1: cannot be synced\n")
+    yield "the name of a log is not synced", ("fsync", 1, errno.EIO, None), (4, "log-1: cannot be synced\n")
     # 1 and 2 are the header and the snapshot; then ticks and batches
     for nth in (1, 2):
-        yield f"sync {nth} fails", ("fdatasync", nth, errno.EIO, None), (4, "log-1-1: cannot be synced\n")
+        yield f"sync {nth} fails", ("fdatasync", nth, errno.EIO, None), (4, "log-1: cannot be synced\n")
         for error, cause in UNWRITTEN:
             name = f"write {nth} gives {errno.errorcode[error]}"
-            yield name, ("pwrite", nth, error, None), (2, f"log-1-1: {cause}\n")
+            yield name, ("pwrite", nth, error, None), (2, f"log-1: {cause}\n")
     for nth in (3, 4, 5):
         yield f"sync {nth} fails", ("fdatasync", nth, errno.EIO, None), (4, "the disk cannot be synced\n")
         yield f"write {nth} fails", ("pwrite", nth, errno.ENOSPC, None), (None, UNRECORDED + RECORDED)

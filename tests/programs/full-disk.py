@@ -29,7 +29,7 @@ from tests.lib import asking, history, served
 SIZE = "24m"  # of the disk
 ARCHIVED, EACH = 8, 1_500_000  # logs of an archive, and octets of each
 GONE = 3  # so many of these logs have the 4,000,000 octets that go at a time
-REMOVED = re.compile(r"no room on the disk: oldest logs removed from the archive: (\d+), up to log-0-(\d+)\n")
+REMOVED = re.compile(r"no room on the disk: oldest logs removed from the archive: (\d+), up to log-1-(\d+)\n")
 RATE = 1000  # requests a second: what is recorded takes a small part of it
 ACCOUNTS, PLACES = 20, 4
 SERVERS = 8  # access servers, each with a request under way
@@ -143,18 +143,18 @@ def put_back(server):
 
 
 def archive(server):
-    """Puts logs of an era of before into the archive."""
+    """Puts logs of a folder of before into the archive."""
     folder = os.path.join(server.state, "archive")
     os.makedirs(folder, 0o700, exist_ok=True)
     for number in range(1, ARCHIVED + 1):
-        with open(os.path.join(folder, f"log-0-{number}"), "wb") as file:
+        with open(os.path.join(folder, f"log-1-{number}"), "wb") as file:
             file.write(bytes(EACH))
 
 
 def archived(server):
     """The numbers of these logs that are left."""
     names = os.listdir(os.path.join(server.state, "archive"))
-    return sorted(int(name.removeprefix("log-0-")) for name in names if name.startswith("log-0-"))
+    return sorted(int(found[2]) for name in names if (found := history.FORMER_LOG.fullmatch(name)))
 
 
 def gone(said):
@@ -193,7 +193,7 @@ def results_with_an_archive(server):
     newest, logs = gone(server.start())
     yield "an archive: a start finds room there", (newest, logs), (GONE, GONE)
     found = served.found_line(server.process)
-    yield "an archive: and goes on", found.startswith("era 1, generation "), True
+    yield "an archive: and goes on", found.startswith("generation "), True
     yield "an archive: it answers then", server.ask(BEFORE) > 0, True
     server.disk.empty()
     # on a slow machine it may want room once more meanwhile, and then says so
@@ -201,7 +201,7 @@ def results_with_an_archive(server):
     yield "an archive: the others stay then", archived(server), list(range((newest or GONE) + 1, ARCHIVED + 1))
     server.end()
     for number in archived(server):
-        os.remove(os.path.join(server.state, "archive", f"log-0-{number}"))
+        os.remove(os.path.join(server.state, "archive", f"log-1-{number}"))
 
 
 def results(server):
@@ -222,12 +222,12 @@ def results(server):
     put_aside(server)
     yield "the disk fills up again", server.fill(), True
     server.end()
-    name = f"log-1-{1 + history.numbers(history.logs(server.state)[-1])[1]}"
+    name = f"log-{1 + history.number_of(history.logs(server.state)[-1])}"
     yield "it does not start on a full disk", server.start(), f"{name}: no room on the disk\n"
     yield "and ends so", server.process.wait(asking.WAIT), 2
     server.disk.empty()
     said = server.start()
-    yield "it starts once there is room", said.startswith("era 1, generation 2: "), True
+    yield "it starts once there is room", said.startswith("generation 2: "), True
     yield "and answers", server.ask(AFTER) > 0, True
     yield "and says nothing more then", server.end(), ("", None)
     put_back(server)

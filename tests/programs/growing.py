@@ -238,13 +238,12 @@ def cases_of_moved_customers(grown):
 
 
 def copy_state(old, new):
-    """Copies logs and tables beside a home that runs, the logs first."""
+    """Copies logs beside a home that runs."""
     os.makedirs(new.state, 0o700)
-    for names in ("log-", "era-"):
-        for name in sorted(os.listdir(old.state)):
-            if name.startswith(names):
-                with contextlib.suppress(FileNotFoundError):
-                    shutil.copy2(os.path.join(old.state, name), new.state)
+    for name in sorted(os.listdir(old.state)):
+        if name.startswith("log-"):
+            with contextlib.suppress(FileNotFoundError):
+                shutil.copy2(os.path.join(old.state, name), new.state)
 
 
 def cases_of_eight(grown):

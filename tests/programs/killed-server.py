@@ -22,7 +22,6 @@ It wants Linux and the built program.
 import itertools
 import os
 import random
-import re
 import sys
 import tempfile
 import time
@@ -36,7 +35,6 @@ PLACES = 4  # at most, of an account
 SERVERS = 32  # access servers, each with a request under way
 RECEIVERS = 2  # on each socket
 SELDOM = 3  # lives in which a link yields to its station at least once
-GREETING = re.compile(r"era 1, (?:new|generation \d+): (\d+) sessions")
 
 
 class Lives:
@@ -76,7 +74,7 @@ class Lives:
         said = served.greeting(life, asking.WAIT)
         life.kill()
         life.communicate()
-        found = GREETING.match(said)
+        found = served.GREETING.match(said)
         return int(found[1]) if found else sys.exit(f"the last life says: {said}")
 
 

@@ -119,7 +119,7 @@ END
 }
 
 # How many moves the history has, but for ticks.
-moves() { "$program" lines "$folder/state/log-1-1" | grep -cv ' tick' || true; }
+moves() { "$program" lines "$folder/state/log-1" | grep -cv ' tick' || true; }
 
 cat > "$folder/accounts.toml" << 'END'
 version = 3

@@ -242,7 +242,7 @@ def start_alone(results, machine):
     adding = [line for line, _ in steps() if ">> /etc/radlimit/accounts.toml" in line]
     results.want("a login", "Received Access-Accept" in machine.run(first)[1], True)
     results.want("an account that is added", [machine.run(line) for line in adding], [(0, "")])
-    told = "era 2: 0 of 0 sessions of era 1 go on\n"
+    told = "0 of 0 sessions go on\n"
     results.want("radlimitd reload", machine.run(f"radlimitd reload {FILE}"), (0, told))
     results.want("a login of it", "Received Access-Accept" in machine.run(second)[1], True)
     held = machine.run(f"radlimitd accounts --held {FILE} | grep -c held=1")
@@ -339,8 +339,8 @@ def try_removal(results, machine):
     results.want("dpkg -r", machine.run("dpkg -r radlimit")[0], 0)
     results.want("no program is left", machine.run("ls /usr/sbin | grep radlimit"), (1, ""))
     results.want("nor a process", machine.run("readlink /proc/[0-9]*/exe | grep radlimit"), (1, ""))
-    kept = machine.run("ls /etc/radlimit && ls /var/lib/radlimit/era-1")
-    results.want("files and state are left", kept, (0, "accounts.toml\nradlimitd.toml\n/var/lib/radlimit/era-1\n"))
+    kept = machine.run("ls /etc/radlimit && ls /var/lib/radlimit | grep -qE '^log-[0-9]+$'")
+    results.want("files and state are left", kept, (0, "accounts.toml\nradlimitd.toml\n"))
     results.want("dpkg --purge", machine.run("dpkg --purge radlimit")[0], 0)
     left = machine.run("find /etc /var/lib /usr -name 'radlimit*' ! -path '/var/lib/dpkg/*'")
     results.want("purge leaves nothing", left, (0, ""))

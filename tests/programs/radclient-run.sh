@@ -29,6 +29,9 @@ start() {
     kill -0 "$server" 2> /dev/null
 }
 
+# What it says that it found.
+greeting() { grep -E '^(new history|generation )' "$said"; }
+
 # Writes its file, with ports that nobody has.
 prepare() {
     read -r auth acct < <(free_ports)
@@ -81,7 +84,7 @@ signed='Message-Authenticator = 0x00'
 # Sends a packet as the client 127.0.0.1, and looks at the answer.
 from_client() { expect "$1" "$2" "$3" "$4" testing-on-this-machine "${@:5}"; }
 
-shows 'a server on a new folder' 'era 1, new: 0 sessions' "$(grep '^era' "$said")"
+shows 'a server on a new folder' 'new history: 0 sessions' "$(greeting)"
 shows 'a second one' 'busy, status 2' "$(refused)"
 answer_before=$(first_answer)
 shows 'a login by PAP, its code' 02 "${answer_before:0:2}"
@@ -96,7 +99,7 @@ start || {
     exit 1
 }
 
-shows 'killed, and started again' 'era 1, generation 1: 1 sessions' "$(grep '^era' "$said")"
+shows 'killed, and started again' 'generation 1: 1 sessions' "$(greeting)"
 shows 'the first request again, its answer' "$answer_before" "$(first_answer)"
 
 cat >> "$folder/accounts.toml" << 'END'
@@ -107,7 +110,7 @@ password = "pass of dora"
 places = 1
 ports = 1
 END
-shows 'an account is added' 'era 2: 1 of 1 sessions of era 1 go on' "$("$program" reload "$folder/radlimitd.toml")"
+shows 'an account is added' '1 of 1 sessions go on' "$("$program" reload "$folder/radlimitd.toml")"
 from_client 'a login of it' Access-Accept 'Class = ' auth 'User-Name = "dora"' 'User-Password = "pass of dora"' "$nas" "$signed"
 shows 'the first request once more, its answer' "$answer_before" "$(first_answer)"
 from_client 'a login beside the session' Access-Reject 'Session limit reached' auth "$name" "$pap" "$nas" "$signed"
@@ -120,7 +123,7 @@ from_client 'its session starts' Accounting-Response '' acct \
 link=$("$program" sessions nemo "$folder/radlimitd.toml")
 shows 'the link of nemo' 'nemo 127.0.0.1 nas=pop1 s2 live' "${link% age=*}"
 shows 'the access server has forgotten it' freed "$("$program" free "$(cut -d' ' -f1-4 <<< "$link")" "$folder/radlimitd.toml")"
-shows 'its Stop is recorded' 1 "$("$program" lines "$folder"/state/log-2-* | grep -c ' stop account=nemo .* session=s2 -> done')"
+shows 'its Stop is recorded' 1 "$("$program" lines "$folder"/state/log-3 | grep -c ' stop account=nemo .* session=s2 -> done')"
 from_client 'a login after that' Access-Accept 'Class = ' auth "$name" "$pap" "$nas" "$signed"
 
 shows 'what its accounts hold' 'places 4, held 2' "$("$program" status "$folder/radlimitd.toml" |

@@ -199,8 +199,8 @@ def lines_of_causes(folder):
     """Each cause that an operator meets, and its line."""
     with Life(folder) as life:
         front = f"refused port=auth client={life.source} nas=bras3"
-        greeting = life.said_until(lambda lines: any(line.startswith("era ") for line in lines))
-        yield "it greets", greeting[-1:], ["era 1, new: 0 sessions"]
+        greeting = life.said_until(lambda lines: any(map(served.GREETING.match, lines)))
+        yield "it greets", greeting[-1:], ["new history: 0 sessions"]
         asked = [
             ("a login", (b"nemo",), 2, None),
             ("a second login", (b"nemo",), 2, None),

@@ -281,7 +281,7 @@ class Daemon(Refuser):
         said += (process.stderr.read() or b"").decode()
         made = THREADS.search(said)
         said = served.but_refusals(served.but_first_lines(THREADS.sub("", said)))
-        said = re.sub(r"^(?:era|stopped:) .*\n", "", said, flags=re.M)
+        said = re.sub(r"^(?:new history:|generation|stopped:) .*\n", "", said, flags=re.M)
         return Ended(process.wait(), lines, said, int(made[1]) if made else 0)
 
     def judged(self, judge, ended, refused):

@@ -2,17 +2,18 @@
 
 Each time the file has changed by chance: accounts were added, removed, renamed, given other places, ports or passwords,
 or put into another order; clients were added in front of all others, removed, given another address or another secret;
-times or shards changed; or nothing did. `radlimitd check` looks at it, it is moved over the old one, and the server is
-asked to read it. Books that were written apart (tests/lib/carried.py) carry sessions by the names of accounts and the
-addresses of clients. They say what is answered, what `radlimitd accounts` and `radlimitd sessions` print then, and what
-a request gets that was answered before and is sent again.
+times changed, or shards, which are of no table; or nothing did. `radlimitd check` looks at it, it is moved over the old one,
+and the server is asked to read it. Books that were written apart (tests/lib/carried.py) carry sessions by the names of
+accounts and the addresses of clients. They say what is answered, what `radlimitd accounts` and `radlimitd sessions` print
+then, and what a request gets that was answered before and is sent again. Where the table is another, the next generation
+begins, and its header has the number of the next table.
 
 Beside it access servers log in and out all the time, over accounts and a client that no change touches. Each of their
 datagrams is sent once, and each has to be answered, by what the sessions of its account say.
 
-Then a server is killed right after it was asked, or while it reads: the next start goes on in the old era or in the new
-one, whole, with either of the two files. At last single cases: files that are wrong, a network whose client is gone, two
-reloads at once, no server, and examples/accounts-from-database.py.
+Then a server is killed right after it was asked, or while it reads: the next start goes on from the generation before the
+change or from the one behind it, whole, with either of the two files. At last single cases: files that are wrong, a
+network whose client is gone, two reloads at once, no server, and examples/accounts-from-database.py.
 
 usage: python3 -m tests.programs.reload [RELOADS [SEED]]        1000 and 1 if not given; a quarter as many servers are killed
        python3 -m tests.programs.reload --pause [RELOADS]       measures how long an answer waits for one, 5 if not given
@@ -81,7 +82,7 @@ def stays(server, case, said):
     printed, told, _ = server.asked("check")
     yield f"{case}: the check", (printed, told), ("", f"{said}\n")
     yield f"{case}: the answer", server.reload(), (f"{said}\n", 2)
-    yield f"{case}: the era", f"era {server.era:18}\n" in server.asked("status")[0], True
+    yield f"{case}: the generation", f"generation {server.generation:11}\n" in server.asked("status")[0], True
     yield f"{case}: what is held", server.found(), server.shown()
     yield from ((f"{case}: {name}", *row) for name, *row in server.works())
     yield f"{case}: what is held then", server.found(), server.shown()
@@ -128,8 +129,8 @@ def cases_of_files(server):
     lacking.write(path)
     yield from stays(server, "a network's client is gone", gone_from(server.file))
     server.accounts.write(path)
-    yield "a right file again", server.reload(), (f"era {server.era} goes on\n", 0)
-    server.told += f"{changing.TOLD}era {server.era} goes on\n"
+    yield "a right file again", server.reload(), ("as before\n", 0)
+    server.told += f"{changing.TOLD}as before\n"
 
 
 def line_of(text, front):
@@ -145,14 +146,14 @@ def gone_from(file):
 
 def cases_of_two(server):
     """Two reloads at once: the second finds what the first has read."""
-    accounts, era, was = server.accounts.changed(server.books), server.next_era(), server.era
-    accounts.shards = server.accounts.shards % 4 + 1
+    accounts, generation = server.accounts.changed(server.books), server.next_generation()
+    accounts.times = next(times for times in changing.TIMES if times != server.accounts.times)
     yield "two at once: the look at the file", server.offer(accounts), ("ok", 0)
     words = [served.DAEMON, "reload", server.file]
     both = [subprocess.Popen(words, stdout=subprocess.PIPE, stderr=subprocess.STDOUT) for _ in range(2)]
     answers = sorted(one.communicate(timeout=WAIT)[0].decode() for one in both)
-    gone_on, held = server.follow(accounts, era)
-    said = [f"era {era}: {gone_on} of {held} sessions of era {was} go on\n", f"era {era} goes on\n"]
+    gone_on, held = server.follow(accounts, generation)
+    said = [f"{gone_on} of {held} sessions go on\n", "as before\n"]
     yield "two at once: the answers", answers, sorted(said)
     server.told += "".join(changing.TOLD + one for one in said)
     yield "two at once: what is held", server.found(), server.shown()
@@ -190,12 +191,12 @@ def cases_of_databases(folder, rng):
         os.chmod(server.path, 0o640)
         password = 'a "password\\\x7f\t\u00e9'
         database_with(database, [("nemo", password, 2), ("dora", "of dora", 0)], there=False)
-        yield "a database", ran(), ("era 2: 0 of 0 sessions of era 1 go on\n", "", 0)
+        yield "a database", ran(), ("0 of 0 sessions go on\n", "", 0)
         rows = server.asked("accounts")[0].splitlines()
         yield "its accounts", [row.split(" held")[0] for row in rows], ["dora places=0", "nemo places=2"]
         yield "a login", accepted(server, 1, "nemo", password), [(28, bytes([0, 0, 2, 88]))]
         database_with(database, [("nemo", "another", 2), ("dora", "of dora", 0)])
-        yield "another password", ran(), ("era 2 goes on\n", "", 0)
+        yield "another password", ran(), ("as before\n", "", 0)
         yield from cases_of_profiles(server, database, ran)
         database_with(database, [("nemo", "another", 65), *CUSTOMERS[1:]])
         text = served.text_of(server.path)
@@ -271,7 +272,7 @@ def cases_of_profiles(server, database, ran):
     ips = [(26, bytes([0, 0, 0, 9, 1, 2 + len(text)]) + text) for text in (b"ip:one=1", b"ip:two=2", b"ip:own=1")]
     rate = 26, bytes([0, 0, 0x3A, 0x8C, 8, 5]) + b"10M"
     database_with(database, CUSTOMERS, MEMBERS, GROUPS, OWN)
-    yield "profiles", ran(), ("era 3: 0 of 0 sessions of era 2 go on\n", "", 0)
+    yield "profiles", ran(), ("0 of 0 sessions go on\n", "", 0)
     # the account's own row of Idle-Timeout goes before that of its group, and so do rows that the group only adds
     nemo = [idle, (8, bytes([192, 0, 2, 7])), ips[2], (11, b"gold"), service, (88, b"of gold"), *ips[:2]]
     yield "an account of a group", accepted(server, 2, "nemo", "another"), nemo
@@ -279,7 +280,7 @@ def cases_of_profiles(server, database, ran):
     yield "what a group sets, and what it only adds", accepted(server, 3, "dora", "of dora"), dora
     yield "an account without a group", accepted(server, 4, "zoe", "of zoe"), [idle, (64, bytes([1, 0, 0, 3])), rate, rate]
     database_with(database, CUSTOMERS, MEMBERS, [row for row in GROUPS if row[1] != "Idle-Timeout"], OWN[:2])
-    yield "a profile and rows", ran(), ("era 3 goes on\n", "", 0)
+    yield "a profile and rows", ran(), ("as before\n", "", 0)
     text = served.text_of(server.path)
     yield "the profile in the file", [text.count(one) for one in ("[profile.", "profile = ", "Filter-Id")], [1, 2, 1]
     nemo = [idle, (11, b"gold"), service, (88, b"of gold"), *ips[:2], (8, bytes([192, 0, 2, 7])), ips[2]]

@@ -415,14 +415,14 @@ def cases_of_daemon(folder):
     file = served.daemon_file(folder, ports, 1)
     server = served.daemon(file)
     try:
-        yield "radlimitd run", served.greeting(server, WAIT), "era 1, new: 0 sessions\n"
+        yield "radlimitd run", served.greeting(server, WAIT), "new history: 0 sessions\n"
         yield from cases_of_login("radlimitd run", folder, ports[0], PROFILE)
         _, _, answer = login(folder, ports[0])
         came = [served.attribute(kind, value).hex() for kind, value in list(served.attributes_of(answer))[2:]]
         printed = [line or text for text, line, _ in (TIMEOUT, *PROFILE, *OWN)]
         yield "radlimitd reply, what came", served.asked("reply", "nemo", file), listed(zip(printed, came, strict=True))
         account_file(folder, OTHER)
-        yield "another profile", served.asked("reload", file), ("era 1 goes on\n", "", 0)
+        yield "another profile", served.asked("reload", file), ("as before\n", "", 0)
         yield from cases_of_login("radlimitd run, another profile", folder, ports[0], OTHER)
     finally:
         server.kill()

@@ -389,13 +389,13 @@ def cases_of_running(trial):
         running.append(served.daemon(os.path.join(trial.folder, file)))
     try:
         greetings = [served.greeting(process, WAIT) for process in running]
-        yield "both run", greetings, ["era 1, new: 0 sessions\n"] * 2
-        told = "".join(f"{name}: 1 accounts: era 2: 0 of 0 sessions of era 1 go on\n" for name in names)
+        yield "both run", greetings, ["new history: 0 sessions\n"] * 2
+        told = "".join(f"{name}: 1 accounts: 0 of 0 sessions go on\n" for name in names)
         yield "both read their files", trial.accounts(*words), (0, told, "")
         running[1].kill()
         running[1].wait()
         status, printed, told = trial.accounts(*words)
-        said = "home0: 1 accounts: era 2 goes on\nhome1: 1 accounts: homes/home1/state/control: no server answers\n"
+        said = "home0: 1 accounts: as before\nhome1: 1 accounts: homes/home1/state/control: no server answers\n"
         yield "one is away", (status, printed, told), (2, said, "")
     finally:
         for process in running:

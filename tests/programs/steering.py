@@ -36,7 +36,7 @@ LONG = 16_384 - 3  # accounts that only make answers long
 ON = 7  # the Acct-Status-Type Accounting-On
 OLDER = 3  # seconds by which a restart is told late
 HEAD = """version = 1
-shards = 4
+shards = 1
 reserve_secs = 60
 live_secs = 900
 grace_secs = 900
@@ -114,7 +114,7 @@ class Steered:
         """Starts the server: whether it begins."""
         self.process = served.daemon(self.file)
         self.said = served.greeting(self.process, WAIT)
-        return self.said.startswith("era ")
+        return served.GREETING.match(self.said) is not None
 
     def kill(self):
         """Kills it."""
@@ -299,9 +299,9 @@ def cases_of_status(steered):
     lines = steered.asked("status").splitlines()
     wide = [line for line in lines if len(line) > 80]
     yield "a screen", (len(lines) <= 24, wide), (True, [])
-    numbers = dict(line.split() for line in lines[3:15])
+    numbers = dict(line.split() for line in lines[3:14])
     yield "who it is", lines[0], f"radlimitd {VERSION}, not proved"
-    yield "in columns", {len(line) for line in lines[3:15]}, {22}
+    yield "in columns", {len(line) for line in lines[3:14]}, {22}
     rows = [dict(word.split("=") for word in line.split(" ")[1:]) for line in steered.asked("accounts").splitlines()]
     for word in ("places", "held", "reserved", "live", "stale", "over"):
         yield f"all that is {word}", int(numbers[word]), sum(int(row[word]) for row in rows)
@@ -319,7 +319,7 @@ def cases_of_status(steered):
 
 def cases_of_json(steered):
     """The same as JSON, of which every octet is of ASCII: numbers, names and words as in the lines."""
-    lines = dict(line.split() for line in steered.asked("status").splitlines()[3:15])
+    lines = dict(line.split() for line in steered.asked("status").splitlines()[3:14])
     told = json.loads(steered.asked("status", "--json"))
     yield "JSON: who it is", [told[word] for word in ("version", "proved", "recording")], [VERSION, "no", True]
     words = [word for word in lines if word not in ("since", "moves")]
@@ -574,12 +574,12 @@ def cases_of_late_restarts(steered):
 
 
 def cases_of_reloads(steered, accounts):
-    """Stations and delays are turned off, and on again, while the era goes on."""
+    """Stations and delays are turned off, and on again, while the generation goes on."""
     pop, modem = served.attribute(32, b"pop1"), station_of(b"modem")
     steered.account(b"one", served.START, pop, b"s3", modem)
     yield "its session", len(steered.links("one")), 1
     steered.write(accounts.replace("station = true", "station = false").replace("delay_time = true", "delay_time = false"))
-    yield "a reload", steered.asked("reload"), "era 1 goes on\n"
+    yield "a reload", steered.asked("reload"), "as before\n"
     yield "it dials again for nothing", steered.login(b"one", pop, modem), None
     steered.account(b"two", served.START, pop, b"after")
     steered.restart(pop, served.attribute(41, (86_400).to_bytes(4, "big")))
@@ -587,7 +587,7 @@ def cases_of_reloads(steered, accounts):
     steered.account(b"one", served.START, pop, b"s4", modem)
     yield "a session without a station", steered.links("one"), ["one 127.0.0.1 nas=pop1 s4 live age=N"]
     steered.write(accounts)
-    yield "a reload back", steered.asked("reload"), "era 1 goes on\n"
+    yield "a reload back", steered.asked("reload"), "as before\n"
     yield "it has none yet", steered.login(b"one", pop, modem), None
     steered.account(b"one", served.INTERIM, pop, b"s4", modem)
     yield "it has one", steered.links("one"), ["one 127.0.0.1 nas=pop1 s4 live age=N station=modem"]
@@ -723,7 +723,7 @@ def cases_of_unsigned():
         try:
             said = served.greeting(process, WAIT), process.stderr.readline().decode()
             need_not = "client 127.0.0.1: its Access-Requests need no Message-Authenticator\n"
-            yield "a client that need not sign", said, ("era 1, new: 0 sessions\n", need_not)
+            yield "a client that need not sign", said, ("new history: 0 sessions\n", need_not)
         finally:
             process.kill()
             process.wait(WAIT)
@@ -744,7 +744,7 @@ def cases_of_loosened(folder, name, head, bad):
         file.write(head + ACCOUNT.format("nemo", 2))
     process = served.daemon(name)
     try:
-        yield "a network of a client that signs", served.greeting(process, WAIT).startswith("era 1, "), True
+        yield "a network of a client that signs", served.greeting(process, WAIT).startswith("generation 1: "), True
         with open(path, "w", encoding="ascii") as file:
             file.write(head + "signed = false\n" + ACCOUNT.format("dora", 2))
         yield "that need not sign any more", served.asked("reload", name, seconds=WAIT), ("", bad, 2)

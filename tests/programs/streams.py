@@ -219,7 +219,7 @@ CHECK_ARGUMENTS = [
     ["versions"],
     ["check", b"\xff"],
     ["lines"],
-    ["line", "log-1-1"],
+    ["line", "log-1"],
     ["export"],
     ["export", "--csv"],
     ["export", "--csv", "--json", SERVER_FILE],
@@ -240,8 +240,8 @@ CHECK_ARGUMENTS = [
 ]
 # of these a flag has taken the last word, so that none is left for FILE
 WITHOUT_FILE = [["sessions", "--client", SERVER_FILE], ["export", "--since", SERVER_FILE]]
-# the keys of an account file for which `state.table` writes the table of an era
-TIMES = b"shards = 2\nreserve_secs = 60\nlive_secs = 900\ngrace_secs = 900\nclosed_secs = 3600\nkeep_secs = 10\n"
+# the keys of an account file for which `state.table` writes the table
+TIMES = b"shards = 1\nreserve_secs = 60\nlive_secs = 900\ngrace_secs = 900\nclosed_secs = 3600\nkeep_secs = 10\n"
 # an account file with all that version 3 would refuse or tell, but for its version; and what is told of it
 LAX = b"""version = 2
 shards = 2
@@ -283,6 +283,7 @@ version 3 refuses networks of clients that need not sign: 2, first 2001:db8:7::/
 network 2001:db8:7::/64: {NAMELESS}
 network 192.0.2.0/24: {NAMELESS}
 """
+SHARDS = "accounts: radlimitd passes over `shards = 2`\n"
 MEMORY = "accounts: their places take 1 MB of memory\n"
 TWO_PATHS = b'accounts = "accounts.toml"\nstate = "state"\n'
 READABLE = b"[trust]\nreadable_accounts = true\n"
@@ -494,12 +495,12 @@ def cases_of_checks():
             yield f"a server's file: {case}", checked("check", name), (1, b"", f"{folder}/{expected}\n".replace("FOLDER", folder).encode())
         written(name, TWO_PATHS)
         for lax, expected in (
-            (LAX, TOLD_OF_LAX + MEMORY + 'version 3 passes over no key, as here client "sigend"\n'),
+            (LAX, TOLD_OF_LAX + SHARDS + MEMORY + 'version 3 passes over no key, as here client "sigend"\n'),
             (
                 LAX.replace(b"sigend = true\n", b""),
-                TOLD_OF_LAX + MEMORY + 'version 3 passes over no key, as here account "disabled"\n',
+                TOLD_OF_LAX + SHARDS + MEMORY + 'version 3 passes over no key, as here account "disabled"\n',
             ),
-            (LAX.replace(b"sigend = true\n", b"").replace(b"disabled = true\n", b""), TOLD_OF_LAX + MEMORY),
+            (LAX.replace(b"sigend = true\n", b"").replace(b"disabled = true\n", b""), TOLD_OF_LAX + SHARDS + MEMORY),
         ):
             written(accounts, lax)
             written(name, TWO_PATHS + LAX_NETWORKS)
@@ -509,7 +510,7 @@ def cases_of_checks():
         told = "".join(f"client 10.255.0.{at}: its Access-Requests need no Message-Authenticator\n" for at in (1, 2))
         written(accounts, strict.replace(b"secret =", b"signed = false\nsecret ="))
         written(name, TWO_PATHS)
-        yield "clients of version 3 that need not sign", checked("check", name), (0, f"ok\n{told}{MEMORY}".encode(), b"")
+        yield "clients of version 3 that need not sign", checked("check", name), (0, f"ok\n{told}{SHARDS}{MEMORY}".encode(), b"")
         written(accounts, right)
         bad = f"{accounts}: others may"
         for mode, more, status, expected, told in (
@@ -887,8 +888,8 @@ def cases_of_rebases():
         state.ask(late, 0, server, "127.0.0.1", 1024, 7, bytes(16)),
         state.alive(late + 1, 0, server, b"s1", None, 0),
     ]
-    table = state.table(names, ["127.0.0.1", "127.0.0.2"], 1_700_000_000, shards=2)
-    log = b"".join(map(state.frame, (state.header(1, 1, table), state.new_books(2), state.listed(moves))))
+    table = state.table(names, ["127.0.0.1", "127.0.0.2"])
+    log = b"".join(map(state.frame, (state.front(1, table, BOOT), state.new_books(2), state.listed(moves))))
     with open(SERVER_ACCOUNTS, "rb") as file:
         right = file.read().replace(b"version = 3\n", b"version = 3\n" + TIMES)
     with tempfile.TemporaryDirectory() as folder:
@@ -896,31 +897,44 @@ def cases_of_rebases():
         yield "no accounts to rebase", checked("rebase", name), (1, b"", f"{accounts}: no such file\n".encode())
         written(accounts, right)
         yield "no history to rebase", checked("rebase", name), (1, b"", b"no history\n")
-        files = {"lock": b"", "era-1": table, "log-1-1": log}
+        files = {"lock": b"", "log-1": log}
         for file, octets in files.items():
             written(os.path.join(folder, "state", file), octets)
         written(accounts, right.replace(b"places = 2", b"places = 3"))
         found = checked("rebase", name)
-        yield "to rebase: other accounts", found, (1, b"", b"other accounts than those of era-1\n")
+        yield "to rebase: other accounts", found, (1, b"", b"other accounts than those of the state folder\n")
         written(accounts, right)
         with open(os.path.join(folder, "state", "lock"), "rb") as lock:
             fcntl.flock(lock, fcntl.LOCK_EX)
             yield "to rebase: a folder in use", checked("rebase", name), (2, b"", b"busy\n")
         began = int(time.time())
         found = checked("rebase", name)
-        yield "a rebase", found, (0, b"era 1, generation 1: 4 moments cut; era 2 begins\n", b"")
-        frames = [state.frame(state.header(2, 1, table))]
+        yield "a rebase", found, (0, b"generation 1: 4 moments cut; generation 2 begins\n", b"")
+        frames = [state.frame(state.front(2, table, BOOT, len(moves)))]
         books = [state.listed([book_at(now, server, key), bytes(6)]) for now in range(began, int(time.time()) + 1)]
         logs = [b"".join(frames + [state.frame(octets)]) for octets in books]
         made = {}
         for file in sorted(os.listdir(os.path.join(folder, "state"))):
             with open(os.path.join(folder, "state", file), "rb") as opened:
                 made[file] = opened.read()
-        cut = made.pop("log-2-1", None)
+        cut = made.pop("log-2", None)
         yield "the snapshot of a rebase", cut in logs, True
-        yield "the other files of a rebase", made, {**files, "era-2": table}
+        yield "the other files of a rebase", made, files
         found = checked("rebase", name)
-        yield "a rebase once more", found, (0, b"era 2, generation 1: 0 moments cut; era 3 begins\n", b"")
+        yield "a rebase once more", found, (0, b"generation 2: 0 moments cut; generation 3 begins\n", b"")
+        state_before = os.path.join(folder, "state")
+        for file in os.listdir(state_before):
+            os.remove(os.path.join(state_before, file))
+        former = state.former_table(table, BOOT, 2)
+        log = b"".join(map(state.frame, (state.former_header(2, 1, 1, former), state.new_books(2), state.listed(moves))))
+        for file, octets in (("era-1", former), ("log-1-1", log)):
+            written(os.path.join(state_before, file), octets)
+        yield "a rebase of a log of before", checked("rebase", name), (1, b"", f"bad log: log-1-1 {FORMER}".encode())
+
+
+BOOT = 1_700_000_000  # of folders that are written here
+# what is said of a log of format 1 or 2
+FORMER = "at 20: a log of a version before 0.4, and version 0.3 reads it\n"
 
 
 def cases_of_lines():
@@ -941,8 +955,9 @@ def cases_of_lines():
             state.restart(1_700_000_008, server),
         ],
     ]
-    table = state.table(names, ["10.0.0.1"], 1_700_000_000)
-    payloads = state.header(1, 1, table), state.new_books(2), *map(state.listed, batches)
+    table = state.table(names, ["10.0.0.1"])
+    front = state.front(1, table, BOOT)
+    payloads = front, state.new_books(2), *map(state.listed, batches)
     frames = [state.frame(payload) for payload in payloads]
     access_server = "client=10.0.0.1 nas=a\\x20b\\x0a"
     digits = bytes(range(16)).hex()
@@ -959,14 +974,12 @@ def cases_of_lines():
         f"9 1700000008 restart {access_server} -> done",
     ]
     with tempfile.TemporaryDirectory() as folder:
-        log, era = os.path.join(folder, "log-1-1"), os.path.join(folder, "era-1")
+        log = os.path.join(folder, "log-1")
         whole = b"".join(frames)
         expected = "".join(f"{log} {line}\n" for line in told).encode()
         written(log, whole)
-        yield "a log without its era", checked("lines", log), (1, b"", f"{era}: no such file\n".encode())
-        written(era, table)
         yield "the lines of a log", checked("lines", log), (0, expected, b"")
-        archived = os.path.join(folder, "archive", "log-1-1")
+        archived = os.path.join(folder, "archive", "log-1")
         os.mkdir(os.path.dirname(archived))
         written(archived, whole)
         lines = "".join(f"{archived} {line}\n" for line in told).encode()
@@ -993,20 +1006,34 @@ def cases_of_lines():
         damaged = f"bad log: {log} at {place}: an unknown tag\n".encode()
         yield "a log with a move that is none", checked("lines", log), (1, expected, damaged)
         written(log, whole)
-        other = os.path.join(folder, "log-1-2")
+        other = os.path.join(folder, "log-2")
         written(other, whole)
         damaged = f"bad log: {other} at 20: a header of another generation\n".encode()
         yield "a log with another's name", checked("lines", log, other), (1, expected, damaged)
-        written(era, state.table(names, ["10.0.0.2"], 1_700_000_000))
-        damaged = f"bad log: {log} at 20: a header of another table\n".encode()
-        yield "a log beside another era", checked("lines", log), (1, b"", damaged)
-        written(era, table + b"\x00")
-        damaged = f"bad log: {era} at {len(table)}: octets after the end\n".encode()
+        elsewhere = state.front(1, state.table(names, ["10.0.0.2"]), BOOT)
+        written(log, b"".join([state.frame(elsewhere), *frames[1:]]))
+        there = expected.replace(b"client=10.0.0.1 ", b"client=10.0.0.2 ")
+        yield "a log with another table", checked("lines", log), (0, there, b"")
+        written(log, b"".join([state.frame(front + b"\x00"), *frames[1:]]))
+        damaged = f"bad log: {log} at {20 + len(front)}: octets after the end\n".encode()
         yield "a table with an octet more", checked("lines", log), (1, b"", damaged)
-        yield "the lines of a table", checked("lines", era), (1, b"", f"{era}: no log by its name\n".encode())
+        written(log, whole)
+        yield from cases_of_former_lines(folder, table, frames)
         with open("/dev/full", "wb") as full:
-            written(era, table)
             yield "a full disk for lines", checked("lines", log, stdout=full), (2, None, FAULT)
+
+
+def cases_of_former_lines(folder, table, frames):
+    """The same of a log and a table of a version before, in a folder with the log of these frames."""
+    log, era = os.path.join(folder, "log-1-1"), os.path.join(folder, "era-1")
+    former = state.former_table(table, BOOT, 2)
+    for form in (1, 2):
+        written(log, b"".join([state.frame(state.former_header(form, 1, 1, former)), *frames[1:]]))
+        for what, octets in (("", former), (", beside no table", b"no table")):
+            written(era, octets)
+            found = checked("lines", log)
+            yield f"a log of format {form}{what}", found, (1, b"", f"bad log: {log} {FORMER}".encode())
+    yield "the lines of a table", checked("lines", era), (1, b"", f"{era}: no log by its name\n".encode())
 
 
 def bound():

@@ -1,18 +1,22 @@
 """Starts `radlimitd run` on a copy of each state folder of tests/folders, which an earlier version wrote, and looks at
 what it goes on from.
 
-`radlimitd lines` prints of its logs what the earlier version printed. `sessions` and `accounts` print what they printed
-there, before its last kill. A request that is sent again gets its first answer again, octet for octet; a late Start of a
-session that has stopped is ignored; and the Start of a reservation binds to it. All of this holds in the next generation
-too, which has the present format. Of a version without stations, with `station` in the account file the same era goes on: a
-session has no station before its next packet that names one, and then yields its place to a login that does. Of one with
-them a session has its own. Of a log whose header has another version, of the format or of the session rule, older or newer,
-a start and `lines` say so by name, and change nothing.
+Each has the format of a version before: 1 or 2, over two shards, with eras, and the table of an era in a file of its own. The
+server reads it once, and goes on in the present format, in generation 1, with the same accounts. Their table is the old one,
+without the boot number and the shards. `sessions` and `accounts` print what they printed there, before its last kill. A request
+that is sent again gets its first answer again, octet for octet, and so the same Class; a late Start of a session that has
+stopped is ignored; and the Start of a reservation binds to it. All of this holds in the next generation too. `radlimitd lines`,
+`export` and `rebase` refuse the old logs by name. The next generation has them put into the archive with the old table, and
+their octets stay as they were. Of a version without stations, with `station` in the account file, a session has no station
+before its next packet that names one, and then yields its place to a login that does. Of one with them a session has its own.
+Of a log whose header has another version, of the format or of the session rule, older or newer, a start and `lines` say so by
+name, and change nothing. So does a start over an old folder whose table is not there, is no file, or is another.
 
 A folder was written by that version's program with its clock set ahead by 2,300,000,000 seconds, so that no deadline
 passes here. Requests came from one port, and the program was killed twice: lines has what they were. state/ is as it was
 then, but for the empty lock and the control's socket; lines, sessions (without ages) and accounts are what the program
-printed, and answers has its last two logins, their Identifiers and the octets of their answers.
+printed, and answers has its last two logins, their Identifiers and the octets of their answers. No present program prints
+these lines.
 
 usage: python3 -m tests.programs.upgrade
        python3 -m tests.programs.upgrade --write FOLDER     writes such a folder of the program that is there
@@ -45,13 +49,17 @@ ON = 7  # the Acct-Status-Type Accounting-On
 AHEAD = 2_300_000_000  # seconds, of the clock of a program that writes a folder
 AGE = re.compile(r" age=\d+")
 WAIT = served.patience(60)  # seconds in which a server has to begin
-# where the two versions of a header stand in a log, after the frame's length and digest, and some that are not read
-PAYLOAD, VERSIONS = 20, (("format", 20, (0, 3)), ("session rule", 21, (0, 2)))
-FORMAT = 2  # what is written
+PAYLOAD = 20  # where the first payload of a log begins, after the frame's length and digest
+FORMAT = 3  # what is written
+# where the two versions of a header stand, and some that are not read: in an old log, and in one of the present format
+FORMER_VERSIONS, VERSIONS = (
+    (("format", PAYLOAD, formats), ("session rule", PAYLOAD + 1, (0, 2))) for formats in ((0, 3, 4), (0, 2, 4))
+)
+FORMER = "at 20: a log of a version before 0.4, and version 0.3 reads it\n"
+SHARDS = 5  # where the shards stand in a stored table: behind the boot number, a second of this century
 
 # the account file of a folder that is written
 ACCOUNTS_HEAD = """version = 3
-shards = 2
 reserve_secs = 60
 live_secs = 900
 grace_secs = 900
@@ -85,9 +93,11 @@ class Asked:
         self.asker.bind(SOURCE)
         self.asker.settimeout(served.patience(10))
 
+    NAMES = "archive/log-1", "log-2"
+
     def logs(self):
-        """The stored logs, as `lines` wants them."""
-        return [os.path.join(self.state, name) for name in ("archive/log-1-1", "log-1-2")]
+        """The logs of both lives, as `lines` wants them."""
+        return [os.path.join(self.state, name) for name in self.NAMES]
 
     def lines(self):
         """What `lines` prints of them."""
@@ -97,6 +107,10 @@ class Asked:
         """Starts the server: what it says."""
         self.process = served.daemon(self.file, self.environment)
         return served.greeting(self.process, WAIT)
+
+    def upgrade(self):
+        """Starts it over a folder of before: what it says, and how many sessions go on."""
+        return self.begin(), self.process.stderr.readline().decode().partition(": ")[2]
 
     def end(self):
         """Kills it."""
@@ -132,6 +146,8 @@ class Asked:
 class Copied(Asked):
     """A copy of a stored folder, and the server on it."""
 
+    NAMES = "archive/log-1-1", "log-1-2"
+
     def __init__(self, stored, folder):
         super().__init__(folder)
         self.stored = stored
@@ -152,13 +168,26 @@ class Copied(Asked):
         lines = [line.split() for line in self.text("answers").splitlines()]
         return [(name, int(number), answer) for name, number, answer in lines]
 
-    def formats(self):
-        """The version of the format of each log, by its name."""
-        found = {}
-        for name in filter(history.LOG.fullmatch, os.listdir(self.state)):
-            with open(os.path.join(self.state, name), "rb") as file:
-                found[name] = file.read()[PAYLOAD]
-        return found
+    def octets(self, name):
+        """The octets of a file of its folder or of the archive."""
+        path = os.path.join(self.state, name)
+        with open(path if os.path.exists(path) else os.path.join(self.state, "archive", name), "rb") as file:
+            return file.read()
+
+    def there(self):
+        """Its files, those of the archive behind them, once all but the newest log have gone there or time is up."""
+        until = time.monotonic() + WAIT
+        while len([name for name in os.listdir(self.state) if "-" in name]) > 1 and time.monotonic() < until:
+            time.sleep(0.1)
+        return [sorted(set(os.listdir(at)) - {"lock", "control"}) for at in (self.state, os.path.join(self.state, "archive"))]
+
+    def refusals(self):
+        """What `lines` of each old log and `export` print and say, and what they should."""
+        for log in self.logs():
+            yield f"the lines of {os.path.basename(log)}", served.asked("lines", log), ("", f"bad log: {log} {FORMER}", 1)
+        printed, said, status = served.asked("export", self.file)
+        said = said.replace("archive/", "")
+        yield "the export", (printed, said, status), ("", f"bad log: {self.state}/log-1-1 {FORMER}", 1)
 
 
 def class_of(accept):
@@ -187,11 +216,22 @@ def with_version(log, at, version):
         file.write(octets)
 
 
+# of an old log that is beside another table
+OTHER_TABLE = "bad log: log-1-2 at 20: a header of another table\n"
+# what a start over a stored folder says
+GOES_ON = "generation 2: 4 sessions\n", "4 of 4 sessions go on\n"
+
+
 def goes_on(copied):
     """What is looked at where a server goes on."""
     accounts = copied.text("accounts")
-    yield "its lines", copied.lines(), copied.text("lines")
-    yield "its greeting", re.sub(r"generation \d+", "generation G", copied.begin()), "era 1, generation G: 4 sessions\n"
+    old = {name: copied.octets(name) for name in ("era-1", "log-1-1", "log-1-2")}
+    yield "the old format", [old[name][PAYLOAD] < FORMAT for name in ("log-1-1", "log-1-2")], [True, True]
+    yield from copied.refusals()
+    printed, said, status = served.asked("rebase", copied.file)
+    yield "a rebase", (printed, said, status), ("", f"bad log: log-1-2 {FORMER}", 1)
+    yield "its greeting", copied.upgrade(), GOES_ON
+    yield "its log", "log-1" in os.listdir(copied.state), True
     for life in ("a start", "the next start"):
         yield f"{life}: sessions", copied.sessions(*NAMES), copied.text("sessions")
         yield f"{life}: accounts", served.asked("accounts", copied.file)[0], accounts
@@ -201,17 +241,31 @@ def goes_on(copied):
             yield f"{life}: a late Start of {session}", copied.start(name, session), True
         yield f"{life}: sessions after late Starts", copied.sessions(*NAMES), copied.text("sessions")
         copied.end()
-        copied.begin()
+        said = re.sub(r"^generation \d+", "generation G", copied.begin())
+        yield f"{life}: the greeting of the next one", said, "generation G: 4 sessions\n"
     given = class_of(copied.answers()[-1][2])
     yield "a Start of a reservation", copied.start(b"stubb", b"s8", attribute(CLASS, given)), True
     yield "its session", copied.sessions("stubb"), "stubb 127.0.20.1 nas=pop1 s8 live\n"
-    yield "the formats of the logs that are left", set(copied.formats().values()), {FORMAT}
+    there = [["archive", "log-3"], ["era-1", "log-1", "log-1-1", "log-1-2", "log-2"]]
+    yield "the files that are left", copied.there(), there
+    yield "the old ones", {name: copied.octets(name) for name in old}, old
+    reader = history.Reader(history.frames(copied.octets("log-1"))[0])
+    header, boot = reader.header(), history.Reader(old["era-1"]).number()
+    yield "the new header", header[:3], (1, 1, boot)
+    yield "the new table", reader.octets[reader.at :], old["era-1"][SHARDS + 1 :]
+    yield "the formats of the new logs", [copied.octets(f"log-{number}")[PAYLOAD] for number in (1, 2, 3)], [FORMAT] * 3
+    printed, said, status = served.asked("lines", os.path.join(copied.state, "archive", "log-1"))
+    yield "the lines of a new log", (printed.count(" ask account="), said, status), (2, "", 0)
+    for name in ("log-1-1", "log-1-2"):
+        os.remove(os.path.join(copied.state, "archive", name))
+    printed, said, status = served.asked("export", copied.file)
+    yield "the export without the old logs", (len(printed.splitlines()), said, status), (5, "", 0)
     copied.end()
 
 
 def keeps_stations(copied):
     """What is looked at where the account file has had stations."""
-    copied.begin()
+    yield "stations: its greeting", copied.upgrade(), GOES_ON
     yield "stations: sessions", copied.sessions(*NAMES), copied.text("sessions")
     yield "a login of another station", copied.login("ahab", 41, attribute(31, b"another"))[:2], "03"
     yield "a login of its station", copied.login("ahab", 42, STATION)[:2], "02"
@@ -228,8 +282,7 @@ def gets_stations(copied):
     text = served.text_of(accounts).replace("version = 2", "version = 3\nstation = true")
     with open(accounts, "w", encoding="ascii") as file:
         file.write(text.replace("[[client]]\n", "[[client]]\nsigned = false\n"))
-    greeting = re.sub(r"generation \d+", "generation G", copied.begin())
-    yield "stations: its greeting", greeting, "era 1, generation G: 4 sessions\n"
+    yield "stations: its greeting", copied.upgrade(), GOES_ON
     yield "stations: sessions", copied.sessions(*NAMES), copied.text("sessions")
     yield "stations: a login while no session has one", copied.login("ahab", 40, STATION)[:2], "03"
     yield "an Interim-Update with a station", copied.start(b"ahab", b"s4", STATION, ADDRESS, INTERIM), True
@@ -247,21 +300,58 @@ def gets_stations(copied):
     copied.end()
 
 
-def is_refused(copied):
-    """What is looked at where the header of a log has another version."""
-    *_, newest = copied.logs()
+def refusals_of(copied, newest, versions, commands):
+    """What commands say of a newest log whose header has another version."""
+    name = os.path.basename(newest)
     shutil.copyfile(newest, f"{newest}.there")
-    for what, at, others in VERSIONS:
+    for what, at, others in versions:
         for version in others:
             shutil.copyfile(f"{newest}.there", newest)
             with_version(newest, at, version)
             before = contents(copied.state)
             said = f"another version of the {what}\n"
-            for words in (["run", copied.file], ["lines", newest]):
+            for words in commands:
                 printed, told, status = served.asked(*words)
                 found = (printed, told.replace(f"{copied.state}/", ""), status)
-                yield f"{words[0]}, version {version} of the {what}", found, ("", f"bad log: log-1-2 at {at}: {said}", 1)
-            yield f"version {version} of the {what}: the folder", contents(copied.state) == before, True
+                case = f"{words[0]}, {name}, version {version} of the {what}"
+                yield case, found, ("", f"bad log: {name} at {at}: {said}", 1)
+            yield f"{name}, version {version} of the {what}: the folder", contents(copied.state) == before, True
+    shutil.move(f"{newest}.there", newest)
+
+
+def is_refused(copied):
+    """What is looked at where the header of a log has another version: of the folder as it was stored, and of one of the
+    present format."""
+    *_, newest = copied.logs()
+    yield from refusals_of(copied, newest, FORMER_VERSIONS, [["run", copied.file]])
+    copied.begin()
+    copied.end()
+    newest = os.path.join(copied.state, "log-1")
+    yield from refusals_of(copied, newest, VERSIONS, [["run", copied.file], ["lines", newest]])
+
+
+def has_no_table(copied):
+    """What is looked at where the old table is not there, is no file, or is another."""
+    table = os.path.join(copied.state, "era-1")
+    octets = copied.octets("era-1")
+    os.rename(table, f"{table}.there")
+    run = ["run", copied.file]
+    yield "no table", served.asked(*run), ("", "era-1: cannot be opened\n", 2)
+    os.mkdir(table)
+    yield "a folder for a table", served.asked(*run), ("", "era-1: cannot be read\n", 2)
+    os.rmdir(table)
+    for what, changed, said in (
+        ("a table with another boot number", octets[:4] + bytes([octets[4] ^ 1]) + octets[5:], OTHER_TABLE),
+        ("a table with an octet more", octets + b"\0", f"bad log: era-1 at {len(octets)}: octets after the end\n"),
+    ):
+        with open(table, "wb") as file:
+            file.write(changed)
+        before = contents(copied.state)
+        yield what, served.asked(*run), ("", said, 1)
+        yield f"{what}: the folder", contents(copied.state) == before, True
+    os.replace(f"{table}.there", table)
+    yield "the table is put back", copied.upgrade(), GOES_ON
+    copied.end()
 
 
 def first_life(server):
@@ -332,7 +422,7 @@ def main():
         sys.exit(__doc__)
     results = []
     for version in sorted(os.listdir(FOLDERS)):
-        for cases in (goes_on, gets_stations, is_refused):
+        for cases in (goes_on, gets_stations, is_refused, has_no_table):
             with tempfile.TemporaryDirectory() as folder:
                 copied = Copied(os.path.join(FOLDERS, version), folder)
                 results += [(f"a folder of {version}: {name}", *rest) for name, *rest in cases(copied)]

@@ -73,6 +73,41 @@ fn an_operator_is_told_that_everybody_can_read_the_file(rt: HostRuntime) -> Resu
     check_rows(&rt, &Warned { mode: 0o100604 }, rows)
 }
 
+/// What an operator learns of a file with a mode, and with a number of shards.
+struct Sharded {
+    mode: u32,
+}
+
+impl Subject for Sharded {
+    fn found(&self, alloc: Global, fields: &[&str]) -> Result<String, Fail> {
+        let [shards] = fields else {
+            return Err("not a number of shards")?;
+        };
+        let line = format!(in alloc; "shards = {shards}")?;
+        let head = HEAD.replace(alloc, "shards = 1", line.as_str())?;
+        let text = format!(in alloc; "{head}{ACCOUNTS}")?;
+        let Ok(config) = read_config(alloc, &Dictionary::new(alloc), text.as_bytes()) else {
+            return Err("the account file is refused")?;
+        };
+        printed(alloc, &warnings(alloc, &config, &[], self.mode)?.as_slice())
+    }
+}
+
+#[test]
+fn an_operator_is_told_of_shards(rt: HostRuntime) -> Result<(), Fail> {
+    let rows = "
+        one | 1 | [Memory(1)]
+        two | 2 | [Shards(2), Memory(1)]
+        four | 4 | [Shards(4), Memory(1)]
+    ";
+    check_rows(&rt, &Sharded { mode: 0o100640 }, rows)?;
+    let rows = "
+        one that everybody reads | 1 | [OthersRead, Memory(1)]
+        two that everybody reads | 2 | [OthersRead, Shards(2), Memory(1)]
+    ";
+    check_rows(&rt, &Sharded { mode: 0o100604 }, rows)
+}
+
 /// Clients and accounts of an account file.
 const ACCOUNTS: &str = "
 [[client]]

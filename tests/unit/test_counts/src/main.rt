@@ -158,7 +158,6 @@ fn print_metrics(
         },
         start: 1_790_000_000,
         now: 1_790_000_060,
-        era: 3,
         generation: u64::MAX,
         moves: 12,
         memory: 0,

@@ -1,14 +1,14 @@
 //! The program `test_folder`: makes a server's folder in the folder that it runs in, and says what
-//! each call on it gives; with which account files an era goes on; which tables are needed no more, and which
+//! each call on it gives; which account files have a table; which files are older than a generation, and which
 //! logs go of an archive that has a size.
 #![tactic(auto)]
 
-mod eras;
+mod older;
 mod sizes;
 mod tables;
 
-use eras::say_eras;
-use rld_folder::{Folder, FolderFault, Generation, Synced, newest_generation};
+use older::say_older;
+use rld_folder::{FileName, Folder, FolderFault, Generation, newest_generation};
 use rld_log::{Log, LogFault};
 use sizes::say_sizes;
 use std::fs::{self, Permissions};
@@ -23,9 +23,8 @@ fn main(rt: HostRuntime) -> io::Result<()> {
     makes_files(&rt)?;
     keeps_others_out(&rt)?;
     finds_what_is_there(&rt)?;
-    removes_tables(&rt)?;
-    say_eras(&rt)?;
     say_tables(&rt)?;
+    say_older(&rt)?;
     say_sizes(&rt)
 }
 
@@ -37,30 +36,51 @@ fn say<T: Drop>(rt: &HostRuntime, call: &str, made: Result<T, FolderFault>) -> i
     }
 }
 
-/// Makes an era and three generations, of which one is there already.
+/// Makes logs, of which one is there already, beside logs of a version before and what has no name of the
+/// server's.
 fn makes_files(rt: &HostRuntime) -> io::Result<()> {
     let folder = match Folder::open(rt, rt.alloc(), STATE) {
         Ok(folder) => folder,
         Err(fault) => return println!(rt; "a new folder: {fault}"),
     };
     say_newest(rt, &folder)?;
-    say(rt, "era 0", folder.write_era(rt, rt.alloc(), 0, b"names"))?;
-    say(
-        rt,
-        "era 0 again",
-        folder.write_era(rt, rt.alloc(), 0, b"other"),
-    )?;
-    let (first, second) = (generation(0, 9), generation(0, 10));
-    say(rt, "log 0-9", folder.create_log(rt, rt.alloc(), first))?;
-    say(rt, "log 0-10", folder.create_log(rt, rt.alloc(), second))?;
-    say(
-        rt,
-        "log 0-9 again",
-        folder.create_log(rt, rt.alloc(), first),
-    )?;
-    fs::write(rt, "state/log-1-07", "not a name of ours")?;
+    fs::write(rt, "state/log-3-10", "")?;
+    fs::write(rt, "state/log-3-9", "")?;
+    say_newest(rt, &folder)?;
+    makes_log(rt, &folder, 1)?;
+    makes_log(rt, &folder, 1)?;
+    for name in [
+        "era-03",
+        "log-",
+        "log-01",
+        "log-+1",
+        "log-1-",
+        "log--1",
+        "log-1-07",
+        "log-1-2-3",
+        "log-17 ",
+        "log-18446744073709551616",
+    ] {
+        fs::write(
+            rt,
+            format!(in rt.alloc(); "{STATE}/{name}")?.as_str(),
+            "no name of ours",
+        )?;
+    }
     fs::write(rt, "state/archive", "nor this")?;
+    fs::write(rt, "state/era-0", "names")?;
+    say_newest(rt, &folder)?;
+    makes_log(rt, &folder, u64::MAX)?;
     say_newest(rt, &folder)
+}
+
+/// Makes the log of a generation, and says which its key names.
+fn makes_log(rt: &HostRuntime, folder: &Folder, generation: u64) -> io::Result<()> {
+    let name = FileName::Log(Generation::Numbered(generation)).text(rt.alloc())?;
+    match folder.create_log(rt, rt.alloc(), generation) {
+        Ok(made) => println!(rt; "{name}: ok, {}", made.key.generation()),
+        Err(fault) => println!(rt; "{name}: {fault}"),
+    }
 }
 
 /// Opens the folder a second time, and where others may write to it.
@@ -95,63 +115,27 @@ fn finds_what_is_there(rt: &HostRuntime) -> io::Result<()> {
         Ok(folder) => folder,
         Err(fault) => return println!(rt; "the folder: {fault}"),
     };
-    match folder.read_era(rt, rt.alloc(), 0) {
+    match folder.read_former_table(rt, rt.alloc(), 0) {
         Ok(octets) if octets.as_slice() == b"names".as_slice() => println!(rt;
-            "era 0: as written"
+            "era-0: as written"
         )?,
-        Ok(octets) => println!(rt; "era 0: {} octets", octets.len())?,
-        Err(fault) => println!(rt; "era 0: {fault}")?,
+        Ok(octets) => println!(rt; "era-0: {} octets", octets.len())?,
+        Err(fault) => println!(rt; "era-0: {fault}")?,
     }
-    say(rt, "era 1", folder.read_era(rt, rt.alloc(), 1))?;
-    match folder.open_log(rt, rt.alloc(), generation(0, 10)) {
+    say(rt, "era-1", folder.read_former_table(rt, rt.alloc(), 1))?;
+    match folder.open_log(rt, rt.alloc(), Generation::Numbered(1)) {
         Ok(mut log) => match written_and_read(rt, &mut log) {
-            Ok(count) => println!(rt; "log 0-10: {count} octets")?,
-            Err(fault) => println!(rt; "log 0-10: {fault}")?,
+            Ok(count) => println!(rt; "log-1: {count} octets")?,
+            Err(fault) => println!(rt; "log-1: {fault}")?,
         },
-        Err(fault) => println!(rt; "log 0-10: {fault}")?,
+        Err(fault) => println!(rt; "log-1: {fault}")?,
     }
+    say(rt, "log-3-9", folder.open_log(rt, rt.alloc(), former(3, 9)))?;
     say(
         rt,
-        "log 0-8",
-        folder.open_log(rt, rt.alloc(), generation(0, 8)),
+        "log-2",
+        folder.open_log(rt, rt.alloc(), Generation::Numbered(2)),
     )
-}
-
-/// Removes tables, of which one is not there: the other is gone all the same.
-fn removes_tables(rt: &HostRuntime) -> io::Result<()> {
-    let folder = match Folder::open(rt, rt.alloc(), STATE) {
-        Ok(folder) => folder,
-        Err(fault) => return println!(rt; "the folder: {fault}"),
-    };
-    say(rt, "era 1", folder.write_era(rt, rt.alloc(), 1, b"names"))?;
-    let newest = match newest_synced(rt, &folder) {
-        Ok(newest) => newest,
-        Err(fault) => return println!(rt; "the newest log: {fault}"),
-    };
-    say(
-        rt,
-        "no table removed",
-        folder.remove_eras(rt, rt.alloc(), &[], &newest),
-    )?;
-    say(
-        rt,
-        "era 1 removed",
-        folder.remove_eras(rt, rt.alloc(), &[1], &newest),
-    )?;
-    say(rt, "era 1", folder.read_era(rt, rt.alloc(), 1))?;
-    say(
-        rt,
-        "eras 7 and 0 removed",
-        folder.remove_eras(rt, rt.alloc(), &[7, 0], &newest),
-    )?;
-    say(rt, "era 0", folder.read_era(rt, rt.alloc(), 0))
-}
-
-/// Makes the log of a generation of era 8, and syncs it.
-fn newest_synced(rt: &HostRuntime, folder: &Folder) -> Result<Synced, FolderFault> {
-    let generation = Generation { era: 8, number: 1 };
-    let _made = folder.create_log(rt, rt.alloc(), generation)?;
-    folder.sync_log(rt, rt.alloc(), generation)
 }
 
 /// Writes six octets to a log that is empty, and counts what a read gives.
@@ -162,8 +146,9 @@ fn written_and_read<L: Log>(rt: &HostRuntime, log: &mut L) -> Result<usize, LogF
     Ok(log.read(rt.alloc())?.len())
 }
 
-fn generation(era: u64, number: u64) -> Generation {
-    Generation { era, number }
+/// A generation of a version before 0.4.
+fn former(era: u64, number: u64) -> Generation {
+    Generation::Former { era, number }
 }
 
 /// Says how many files of the server's there are, and which two generations are the newest.
@@ -179,11 +164,9 @@ fn say_newest(rt: &HostRuntime, folder: &Folder) -> io::Result<()> {
         return println!(rt; "files: {}, one generation", files.len());
     };
     println!(rt;
-        "files: {}, newest {}-{}, before it {}-{}",
+        "files: {}, newest {}, before it {}",
         files.len(),
-        newest.era,
-        newest.number,
-        before.era,
-        before.number
+        FileName::Log(newest),
+        FileName::Log(before)
     )
 }

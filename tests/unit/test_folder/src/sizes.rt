@@ -1,6 +1,10 @@
 //! Which logs go of an archive that has a size, and of one on a disk without room.
 
-use rld_folder::{ArchivedLog, Folder, FolderFault, Generation, excess_logs, logs_for_room};
+use crate::former;
+use crate::older::place;
+use rld_folder::{
+    ArchivedLog, FileName, Folder, FolderFault, Generation, excess_logs, logs_for_room,
+};
 use std::{fs, io};
 
 /// The folder whose archive has logs.
@@ -10,43 +14,66 @@ const SIZED: &str = "sized";
 const ROOMY: &str = "roomy";
 
 /// A log of an archive.
-fn log(era: u64, number: u64, octets: u64) -> ArchivedLog {
+fn log(number: u64, octets: u64) -> ArchivedLog {
     ArchivedLog {
-        generation: Generation { era, number },
+        generation: Generation::Numbered(number),
         octets,
     }
 }
 
-/// Says which logs go of those of two eras, in no order, that have 1,150 octets. The oldest is 1-9, then come 1-10,
-/// 2-1 and 2-2.
+/// A log of an archive, of a version before 0.4.
+fn former_log(era: u64, number: u64, octets: u64) -> ArchivedLog {
+    ArchivedLog {
+        generation: former(era, number),
+        octets,
+    }
+}
+
+/// Says which logs go of an archive, in no order, that have 1,150 octets. The oldest is log-2-9, then come log-2-10,
+/// log-1 and log-2.
 pub fn say_sizes(rt: &HostRuntime) -> io::Result<()> {
     let logs = [
-        log(2, 1, 50),
-        log(1, 10, 100),
-        log(2, 2, 0),
-        log(1, 9, 1_000),
+        log(1, 50),
+        former_log(2, 10, 100),
+        log(2, 0),
+        former_log(2, 9, 1_000),
     ];
     for limit in [1_151, 1_150, 1_149, 150, 149, 50, 49, 0] {
         say_excess(rt, &logs, limit)?;
     }
     say_excess(rt, &[], 0)?;
+    say_ages(rt)?;
     say_rooms(rt)?;
     removes_the_oldest(rt)?;
     makes_room(rt)
 }
 
+/// Says the logs of an archive, the oldest first.
+fn say_ages(rt: &HostRuntime) -> io::Result<()> {
+    let logs = [
+        log(10, 1),
+        former_log(2, 1, 1),
+        log(9, 1),
+        former_log(1, 10, 1),
+        log(1, 1),
+        former_log(1, 9, 1),
+        former_log(0, u64::MAX, 1),
+    ];
+    say_excess(rt, &logs, 0)
+}
+
 /// Says which logs go where the disk has no room: the oldest, until 4,000,000 octets are gone, and no more.
 fn say_rooms(rt: &HostRuntime) -> io::Result<()> {
     let large = [
-        log(2, 1, 1),
-        log(1, 10, 2_000_000),
-        log(1, 9, 1_999_999),
-        log(2, 2, 5_000_000),
+        log(11, 1),
+        log(10, 2_000_000),
+        log(9, 1_999_999),
+        log(12, 5_000_000),
     ];
     say_room(rt, &large)?;
-    say_room(rt, &[log(3, 1, 4_000_000), log(3, 2, 1)])?;
-    say_room(rt, &[log(3, 2, 9), log(3, 1, 1)])?;
-    say_room(rt, &[log(3, 1, 0)])?;
+    say_room(rt, &[former_log(3, 1, 4_000_000), log(2, 1)])?;
+    say_room(rt, &[log(2, 9), log(1, 1)])?;
+    say_room(rt, &[log(1, 0)])?;
     say_room(rt, &[])
 }
 
@@ -64,7 +91,7 @@ fn say_room(rt: &HostRuntime, logs: &[ArchivedLog]) -> io::Result<()> {
 fn say_gone(rt: &HostRuntime, why: &str, gone: &[Generation]) -> io::Result<()> {
     print!(rt; "{why}:")?;
     for generation in gone {
-        print!(rt; " {}-{}", generation.era, generation.number)?;
+        print!(rt; " {}", FileName::Log(*generation))?;
     }
     println!(rt; "")
 }
@@ -79,10 +106,10 @@ fn makes_room(rt: &HostRuntime) -> io::Result<()> {
     fs::create_dir(rt, "roomy/archive")?;
     let mut large = Vec::new(rt.alloc());
     large.resize(3_999_999, 0u8)?;
-    fs::write(rt, "roomy/archive/log-1-2", "0")?;
-    fs::write(rt, "roomy/archive/log-1-3", large.as_slice())?;
-    fs::write(rt, "roomy/archive/log-2-1", "0")?;
-    fs::write(rt, "roomy/archive/era-1", "a table")?;
+    fs::write(rt, "roomy/archive/log-7-2", "0")?;
+    fs::write(rt, "roomy/archive/log-1", large.as_slice())?;
+    fs::write(rt, "roomy/archive/log-2", "0")?;
+    fs::write(rt, "roomy/archive/era-7", "a table")?;
     for _ in 0..3 {
         make_room(rt, &folder)?;
     }
@@ -123,10 +150,10 @@ fn removes_the_oldest(rt: &HostRuntime) -> io::Result<()> {
     fs::create_dir(rt, "sized/archive")?;
     for (name, text) in [
         ("log-1-2", "0123456789"),
-        ("log-1-10", "01234"),
-        ("log-2-1", "012"),
+        ("log-1", "01234"),
+        ("log-10", "012"),
         ("era-1", "a table"),
-        ("log-1-03", "no name of ours"),
+        ("log-03", "no name of ours"),
     ] {
         fs::write(
             rt,
@@ -155,11 +182,10 @@ fn say_archive(rt: &HostRuntime, folder: &Folder, what: &str) -> io::Result<()> 
         Ok(logs) => logs,
         Err(fault) => return say_fault(rt, what, fault),
     };
-    logs.sort_unstable_by_key(|log| (log.generation.era, log.generation.number));
+    logs.sort_unstable_by_key(|log| place(FileName::Log(log.generation)));
     print!(rt; "{what}:")?;
     for log in logs.as_slice() {
-        let Generation { era, number } = log.generation;
-        print!(rt; " {era}-{number} of {}", log.octets)?;
+        print!(rt; " {} of {}", FileName::Log(log.generation), log.octets)?;
     }
     println!(rt; "")
 }

@@ -1,49 +1,61 @@
-//! The tables of eras of which no log is left.
+//! The table of an account file, and the account files that have the same.
 
-use rld_folder::{FileName, Generation, logless_eras};
+use rld_books::{is_table_of, table_octets};
+use rsl_account_file::read_config;
+use rsl_accounts::Config;
+use rsl_reply::Dictionary;
 use std::io;
 
-/// Files of a folder: era 1 has no log, era 2 one, eras 3 and 4 none here; era 5 is the newest, and
-/// era 6 is not begun.
-const FILES: [FileName; 9] = [
-    FileName::Era(4),
-    FileName::Lock,
-    FileName::Era(1),
-    FileName::Era(2),
-    FileName::Log(Generation { era: 2, number: 7 }),
-    FileName::Era(3),
-    FileName::Era(5),
-    FileName::Log(Generation { era: 5, number: 1 }),
-    FileName::Era(6),
-];
+/// The octets of the table, by hand: one account, one client.
+const TABLE: &str = "01046e656d6f02013cfd0384fd0384fd0e100a010a000001";
 
-/// Files of its archive: a log of era 3, and of era 0 one whose table is gone; tables there are no logs.
-const ARCHIVED: [FileName; 3] = [
-    FileName::Log(Generation { era: 3, number: 4 }),
-    FileName::Era(4),
-    FileName::Log(Generation { era: 0, number: 1 }),
-];
-
-/// Says which tables may go.
-pub fn say_tables(rt: &HostRuntime) -> io::Result<()> {
-    say_logless(rt, "with an archive", &FILES, &ARCHIVED, 5)?;
-    say_logless(rt, "without an archive", &FILES, &[], 5)?;
-    say_logless(rt, "in an earlier era", &FILES, &[], 2)?;
-    say_logless(rt, "in the first era", &FILES, &[], 1)?;
-    say_logless(rt, "in no files", &[], &ARCHIVED, 5)
+/// An account file with these words in place of its own.
+fn file_with(rt: &HostRuntime, word: &str, other: &str) -> io::Result<String> {
+    let text = "version = 2\nshards = 3\nreserve_secs = 60\nlive_secs = 900\ngrace_secs = 900\n\
+closed_secs = 3600\nkeep_secs = 10\n\
+[[client]]\naddress = \"10.0.0.1\"\nsecret = \"xyzzy5461xyzzy5461\"\n\
+[[account]]\nname = \"nemo\"\npassword = \"arctangent\"\nplaces = 2\nports = 1\n";
+    Ok(text.replace(rt.alloc(), word, other)?)
 }
 
-/// Says which tables may go where the newest generation is of this era.
-fn say_logless(
-    rt: &HostRuntime,
-    what: &str,
-    files: &[FileName],
-    archived: &[FileName],
-    era: u64,
-) -> io::Result<()> {
-    let newest = Generation { era, number: 1 };
-    match logless_eras(rt.alloc(), files, archived, newest) {
-        Ok(eras) => println!(rt; "tables without logs {what}: {:?}", eras.as_slice()),
-        Err(_) => println!(rt; "tables without logs {what}: no memory"),
+/// Says what the table is, and which account files have it.
+pub fn say_tables(rt: &HostRuntime) -> io::Result<()> {
+    say_table(rt, "the file itself", "", "")?;
+    say_table(rt, "another password", "arctangent", "arcsine")?;
+    say_table(rt, "another secret", "xyzzy5461", "abracadabra")?;
+    let stationed = "version = 3\nstation = true\ndelay_time = true";
+    say_table(rt, "stations and delays", "version = 2", stationed)?;
+    let asked = "keep_secs = 10\ninterim_secs = 300";
+    say_table(rt, "an interval", "keep_secs = 10", asked)?;
+    let asked = "ports = 1\ninterim_secs = 60";
+    say_table(rt, "an interval of an account", "ports = 1", asked)?;
+    say_table(rt, "another name", "nemo", "flopsy")?;
+    say_table(rt, "another place", "places = 2", "places = 3")?;
+    say_table(rt, "another time", "live_secs = 900", "live_secs = 901")?;
+    say_table(rt, "another address", "10.0.0.1", "10.0.0.2")?;
+    say_table(rt, "another number of shards", "shards = 3", "shards = 4")
+}
+
+/// Says whether an account file in which a word is another has the table.
+fn say_table(rt: &HostRuntime, what: &str, word: &str, other: &str) -> io::Result<()> {
+    let text = file_with(rt, word, other)?;
+    let Ok(config) = read_config(rt.alloc(), &Dictionary::new(rt.alloc()), text.as_bytes()) else {
+        return println!(rt; "{what}: no account file");
+    };
+    let Ok(table) = hex::decode(rt.alloc(), TABLE) else {
+        return println!(rt; "{what}: no table");
+    };
+    match is_table_of(rt.alloc(), &config, table.as_slice()) {
+        Ok(true) => println!(rt; "{what}: the table"),
+        Ok(false) => say_own(rt, what, &config),
+        Err(_) => println!(rt; "{what}: no memory"),
+    }
+}
+
+/// Says which table an account file has.
+fn say_own(rt: &HostRuntime, what: &str, config: &Config) -> io::Result<()> {
+    match table_octets(rt.alloc(), config) {
+        Ok(table) => println!(rt; "{what}: {}", hex::encode(rt.alloc(), table.as_slice())?),
+        Err(_) => println!(rt; "{what}: no memory"),
     }
 }

@@ -2,7 +2,7 @@
 //!
 //! A row has the moments of the first account's book, which are those of its clock, of its link (when
 //! it opened, and its last touch), its ask and its stop, and after them the clock of the second
-//! account, in another shard; then the moment that they are cut to. What is expected is the greatest
+//! account; then the moment that they are cut to. What is expected is the greatest
 //! clock before, the moments after, and how many were cut.
 
 use crate::saved::{ask_of, link_of, stop_of};
@@ -14,7 +14,7 @@ use std::test::Fail;
 use test_rows::{Subject, check_rows};
 
 /// The accounts.
-const HEAD: &str = "set shards 2/client C xyzzy5461/account a pw 1/account b pw 1/";
+const HEAD: &str = "client C xyzzy5461/account a pw 1/account b pw 1/";
 
 /// A book that has nothing but this clock.
 fn bare(alloc: Global, clock: u64) -> SavedBook {
@@ -114,7 +114,7 @@ a touch alone, at the end of time | 9 | 6 | 18446744073709551615 | 8 | 7 | 9 | 9
 an opening and a touch | 9 | 10 | 11 | 8 | 7 | 9 | 9 | 9: 9 9 9 8 7 9, 2 cut
 an opening that is not known | 9 | 0 | 10 | 8 | 7 | 9 | 9 | 9: 9 0 9 8 7 9, 1 cut
 an ask and a stop | 9 | 9 | 9 | 10 | 11 | 9 | 9 | 9: 9 9 9 9 9 9, 2 cut
-the other shard alone | 9 | 9 | 9 | 8 | 7 | 12 | 9 | 12: 9 9 9 8 7 9, 1 cut
+the other account alone | 9 | 9 | 9 | 8 | 7 | 12 | 9 | 12: 9 9 9 8 7 9, 1 cut
 to the beginning of time | 1 | 1 | 1 | 1 | 0 | 0 | 0 | 1: 0 0 0 0 0 0, 4 cut
 ",
     )

@@ -1,4 +1,4 @@
-//! Tests of `rld_books`: batches of moves, in the books of all shards.
+//! Tests of `rld_books`: batches of moves, in the books of all accounts.
 //!
 //! A row has the head of a script, as in `steps`, and batches with `; ` between them, of moves with
 //! `/` between them, each as in `shards`. What is expected is the decision on each move, or that a
@@ -67,7 +67,7 @@ fn told_decisions(alloc: Global, decisions: &[Decision]) -> Result<String, Fail>
 // An account has one place, and a reservation of 60 seconds; a repeat of an ask is known for 10. So an
 // ask at a moment that has fallen finds the place free only if its book had the tick, or the sweep.
 #[test]
-fn batches_step_the_books_of_all_shards(rt: HostRuntime) -> Result<(), Fail> {
+fn batches_step_the_books_of_all_accounts(rt: HostRuntime) -> Result<(), Fail> {
     check_rows(
         &rt,
         &Batches,
@@ -76,23 +76,23 @@ moves of each kind in one batch | client C xyzzy5461/account a pw 1/account b pw
     | 0 ask 0 n 1/0 ask 1 n 1/0 ask 20 n 1/1 alive 21 n s/1 stop 22 n s/all sweep 23 n/\
     all tick 24/stray \
     | Accept(0), Accept(0), LimitReject, Done, Done, Done, Done, Done
-each account in its own shard \
-    | set shards 3/client C xyzzy5461/account a pw 2/account b pw 2/account c pw 1/account d pw 1/ \
+each account has its own book \
+    | client C xyzzy5461/account a pw 2/account b pw 2/account c pw 1/account d pw 1/ \
     | 0 ask 0 n 1/1 ask 0 n 1/2 ask 0 n 1/3 ask 0 n 1; 0 ask 0 n 2/1 ask 0 n 2/2 ask 0 n 2/\
     3 ask 0 n 2; 0 ask 0 n 3/1 ask 0 n 3 \
     | Accept(0), Accept(0), Accept(0), Accept(0); Accept(1), Accept(1), LimitReject, LimitReject; \
     LimitReject, LimitReject
-a tick comes to every shard \
-    | set shards 4/client C xyzzy5461/account a pw 1/account b pw 1/account c pw 1/account d pw 1/ \
+a tick comes to every book \
+    | client C xyzzy5461/account a pw 1/account b pw 1/account c pw 1/account d pw 1/ \
     | 0 ask 0 n 1/1 ask 0 n 1/2 ask 0 n 1/3 ask 0 n 1; all tick 60; 0 ask 0 n 2/1 ask 0 n 2/\
     2 ask 0 n 2/3 ask 0 n 2 \
     | Accept(0), Accept(0), Accept(0), Accept(0); Done; Accept(1), Accept(1), Accept(1), Accept(1)
-a sweep comes to every shard, and sweeps its access server alone \
-    | set shards 3/client C xyzzy5461/account a pw 1/account b pw 1/account c pw 1/ \
+a sweep comes to every book, and sweeps its access server alone \
+    | client C xyzzy5461/account a pw 1/account b pw 1/account c pw 1/ \
     | 0 ask 0 n 1/1 ask 0 m 1/2 ask 0 n 1; all sweep 1 n/0 ask 1 n 2/1 ask 1 n 2/2 ask 1 n 2 \
     | Accept(0), Accept(0), Accept(0); Done, Accept(1), LimitReject, Accept(1)
-a late sweep ends what opened before the restart, in every shard \
-    | set shards 2/client C xyzzy5461/account a pw 1/account b pw 1/ \
+a late sweep ends what opened before the restart, in every book \
+    | client C xyzzy5461/account a pw 1/account b pw 1/ \
     | 0 ask 0 n 1/1 ask 5 n 1; all sweep 8 n delay=5/0 ask 8 n 2/1 ask 8 n 2; \
     all sweep 10 n delay=5/1 ask 10 n 3 \
     | Accept(0), Accept(0); Done, Accept(1), LimitReject; Done, Accept(1)
@@ -100,11 +100,11 @@ a link yields to its station | client C xyzzy5461/account a pw 1/ \
     | 0 ask 0 n 1 station=d; 0 ask 1 n 2 station=d/0 ask 2 n 3/0 alive 3 n s class=1 station=e; \
     0 ask 4 n 4 station=d/0 ask 5 n 5 station=e \
     | Accept(0); Accept(1), LimitReject, Done; LimitReject, Accept(2)
-a stray steps no book | set shards 2/client C xyzzy5461/account a pw 1/account b pw 1/ \
+a stray steps no book | client C xyzzy5461/account a pw 1/account b pw 1/ \
     | 0 ask 0 n 1/stray/0 ask 0 n 1/0 ask 0 n 2 | Accept(0), Done, Accept(0), LimitReject
 an own move leaves the other books | client C xyzzy5461/account a pw 1/account b pw 1/ \
     | 0 ask 0 n 1; 1 stop 1 n s/0 ask 1 n 2/1 ask 1 n 2 | Accept(0); Done, LimitReject, Accept(0)
-what is not taken leaves the books | set shards 2/client C xyzzy5461/account a pw 1/account b pw 1/ \
+what is not taken leaves the books | client C xyzzy5461/account a pw 1/account b pw 1/ \
     | 0 ask 0 n 1; 1 ask 0 n 1/2 ask 0 n 1; 0 tick 60; 1 sweep 1 n; 0 ask 0 n 2/1 ask 0 n 1 \
     | Accept(0); not taken; not taken; not taken; LimitReject, Accept(0)
 ",

@@ -4,7 +4,7 @@
 use crate::undisturbed::{Run, batch_len, batches_of, config_of, run_of};
 use rld_lives::{Lived, Logs, Outcome, Plan, Step, lives};
 use rld_log::{Ending, Life, MemoryLog};
-use rld_spelling::{FORMAT_VERSION, Header};
+use rld_spelling::Header;
 use rld_store::{Opened, Store, read_frames};
 use rsl_accounts::Config;
 use rsl_shard::{Line, Row};
@@ -39,7 +39,8 @@ const KEPT: [usize; 6] = [0, 1, 19, 20, 27, 1000];
 /// an alive and a tick.
 const LAST_FRAME: usize = 65;
 
-/// A server of three shards, whose lives have the moves of the run.
+/// A server whose lives have the moves of the run. Its account file has three shards, which count for
+/// nothing.
 #[derive(Drop)]
 struct Server {
     config: Config,
@@ -50,10 +51,9 @@ struct Server {
 
 /// The header of the generation.
 const HEADER: Header = Header {
-    format: FORMAT_VERSION,
-    era: 1,
     generation: 1,
-    digest: [0; 16],
+    table: 1,
+    boot: 7,
     lines: 0,
 };
 
@@ -161,12 +161,9 @@ fn are_alike(pair: (&Outcome, &Outcome)) -> bool {
     are_same(pair) || matches!(pair, (Err(_), Err(_)))
 }
 
-/// Whether these are the rows of the run, shard after shard.
+/// Whether these are the rows of the run, in the order of the accounts.
 fn are_same_rows(rows: &[Row], wanted: &[Row]) -> bool {
-    rows.len() == wanted.len()
-        && rows
-            .iter()
-            .all(|row| wanted.get(row.account as usize) == Some(row))
+    rows == wanted
 }
 
 impl Server {

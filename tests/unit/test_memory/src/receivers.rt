@@ -119,7 +119,7 @@ fn comings(
                 octets,
                 ..
             } if *to == port && lost != Some(number) => comings.push(Coming::Datagram(Datagram {
-                source: *source,
+                peer: *source,
                 octets: octets.try_copy(alloc)?,
             }))?,
             _ => (),

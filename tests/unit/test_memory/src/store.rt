@@ -1,12 +1,12 @@
 //! A store over a log in memory.
 
-use crate::TRIES;
 use crate::given::Given;
 use crate::page::Page;
 use crate::shard::move_of;
 use crate::stop::Stop;
+use crate::{BOOT, TRIES};
 use rld_log::MemoryLog;
-use rld_spelling::{FORMAT_VERSION, Header};
+use rld_spelling::Header;
 use rld_store::{Opened, Refused, Store, read_frames};
 use rsl_accounts::Config;
 use rsl_event::{Act, Event, Note};
@@ -60,13 +60,12 @@ fn rows_of(alloc: Global, store: &Store<MemoryLog>) -> Result<Vec<Row>, Stop> {
     Ok(store.rows(alloc)?)
 }
 
-/// The header of a generation of the first era.
+/// The header of a generation with the first table.
 fn header(generation: u64) -> Header {
     Header {
-        format: FORMAT_VERSION,
-        era: 1,
         generation,
-        digest: [0; 16],
+        table: 1,
+        boot: BOOT,
         lines: 0,
     }
 }

@@ -43,7 +43,6 @@ pub(crate) fn idle(alloc: Global) -> Result<Look, NoMemory> {
         },
         start: NOW,
         now: NOW,
-        era: 1,
         generation: 1,
         moves: 0,
         memory: 0,
@@ -79,7 +78,6 @@ pub(crate) fn late(alloc: Global) -> Result<Look, NoMemory> {
 pub(crate) fn worked(alloc: Global) -> Result<Look, NoMemory> {
     let mut look = idle(alloc)?;
     look.start = NOW - 20_000;
-    look.era = 3;
     look.generation = 41;
     look.moves = 12_345;
     look.recording = Recording::Recorded;

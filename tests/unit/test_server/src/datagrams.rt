@@ -13,7 +13,7 @@ pub(crate) fn push_sent(text: &mut String, alloc: Global, sent: &[Datagram]) -> 
     for datagram in sent {
         let digits = printed(alloc, &Hex(datagram.octets.as_slice()))?;
         let reply = reply_of(digits.as_str());
-        let port = datagram.source.port;
+        let port = datagram.peer.port;
         write!(text, " {reply} to {port},")?;
     }
     Ok(())
@@ -22,12 +22,12 @@ pub(crate) fn push_sent(text: &mut String, alloc: Global, sent: &[Datagram]) -> 
 /// The datagram of a word, from port 1024 of the client, or from the port after `:`.
 fn datagram_of(alloc: Global, word: &str) -> Result<Datagram, Fail> {
     let (word, port) = word.split_once(':').unwrap_or((word, "1024"));
-    let source = Source {
+    let peer = Source {
         address: [192, 168, 1, 16],
         port: port_number(port)?,
     };
     let octets = Octets::from_slice(alloc, &octets_of(alloc, digits_of(word)?)?)?;
-    Ok(Datagram { source, octets })
+    Ok(Datagram { peer, octets })
 }
 
 /// What comes, of a word.

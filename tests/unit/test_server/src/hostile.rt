@@ -190,7 +190,7 @@ fn push_changes(
 fn push_datagram(alloc: Global, coming: &mut Vec<Coming>, octets: &[u8]) -> Result<(), Fail> {
     let octets = Octets::from_slice(alloc, octets)?;
     coming.push(Coming::Datagram(Datagram {
-        source: CLIENT,
+        peer: CLIENT,
         octets,
     }))?;
     Ok(())

@@ -33,7 +33,7 @@ impl<'a> Watched<'a> {
     }
 }
 
-impl DatagramPort for Watched<'_> {
+impl DatagramPort<Source> for Watched<'_> {
     ghost numbers = { λ watched. watched.numbers };
 
     fn receive(&mut self, buffer: &mut [u8]) -> Result<Option<(usize, Source)>, PortFault> {

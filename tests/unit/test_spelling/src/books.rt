@@ -50,7 +50,7 @@ fn octets_of_a_book(rt: HostRuntime) -> Result<(), Fail> {
 a new book | 01 00 00 00 00 00 00 | \
 [SavedBook { clock: 0, links: [], accepts: 0, asks: [], stops: [], over: 0 }]
 # a link has its access server, what has it, its bundle, and its last touch
-# what has it, by tags of format 1 where its opening is 0 and it has no station
+# what has it, by the first two tags where its opening is 0 and it has no station
 two links in the order of their opening | 01 09 03 01 02 01 02 00 02 00 09 00 02 01 01 73 01 01 6d 05 00 00 | \
 [SavedBook { clock: 9, links: [SavedLink { nas: Nas { client: 1, name: Unnamed }, holder: Reserved(2), \
 bundle: None, touched: 9 }, SavedLink { nas: Nas { client: 0, name: Unnamed }, holder: Bound([115]), \

@@ -3,7 +3,7 @@
 
 use crate::draw::{COUNTS, Draw};
 use crate::lived::lived;
-use rld_spelling::{Era, FORMAT_VERSION, Header, ReadFault, push_book, push_number, read_books};
+use rld_spelling::{Header, ReadFault, Table, push_book, push_number, read_books};
 use rsl_session::SavedBook;
 use std::alloc::Global;
 use std::test::Fail;
@@ -155,10 +155,10 @@ fn each_front_of_a_snapshot_is_refused(rt: HostRuntime) -> Result<(), Fail> {
 
 /// Whether octets are those of a table, which is then written so.
 fn is_table(alloc: Global, octets: &[u8]) -> Result<bool, Fail> {
-    match Era::read(alloc, octets) {
-        Ok(era) => {
+    match Table::read(alloc, octets) {
+        Ok(table) => {
             let mut again = Vec::new(alloc);
-            era.push(&mut again)?;
+            table.push(&mut again)?;
             if again.as_slice() != octets {
                 return Err("written otherwise than it was read")?;
             }
@@ -184,24 +184,12 @@ fn refused_tables(alloc: Global, octets: &mut Vec<u8>, place: usize) -> Result<u
 
 #[test]
 fn each_octet_of_a_table_changed(rt: HostRuntime) -> Result<(), Fail> {
-    // boot 7, 2 shards, the account a of 2 places and 1 port, times of 60, 60, 60, 60 and 5 seconds,
-    // and a client
-    let mut octets = octets_of(
-        rt.alloc(),
-        "07 02 01 01 61 02 01 3c 3c 3c 3c 05 01 c0a80110",
-    )?;
-    // How many of the 255 other values of an octet are refused: all but 3 of the shards, all numbers
-    // of accounts, all but 93 characters, all but 64 of the places and 15 of the ports, a reserve of
-    // under 5 seconds or of more than one octet, and all numbers of clients.
-    let refused = [
-        (1, 252),
-        (2, 255),
-        (4, 162),
-        (5, 191),
-        (6, 240),
-        (7, 8),
-        (12, 255),
-    ];
+    // the account a of 2 places and 1 port, times of 60, 60, 60, 60 and 5 seconds, and a client
+    let mut octets = octets_of(rt.alloc(), "01 01 61 02 01 3c 3c 3c 3c 05 01 c0a80110")?;
+    // How many of the 255 other values of an octet are refused: all numbers of accounts, all but 93
+    // characters, all but 64 of the places and 15 of the ports, a reserve of under 5 seconds or of
+    // more than one octet, and all numbers of clients.
+    let refused = [(0, 255), (2, 162), (3, 191), (4, 240), (5, 8), (10, 255)];
     for (place, count) in refused {
         assert_eq!(rt;
             refused_tables(rt.alloc(), &mut octets, place)?,
@@ -214,13 +202,14 @@ fn each_octet_of_a_table_changed(rt: HostRuntime) -> Result<(), Fail> {
     Ok(())
 }
 
-/// Whether octets are those of a header, which is then written so.
-fn is_header(alloc: Global, octets: &[u8]) -> Result<bool, Fail> {
-    let Ok(header) = Header::read(octets) else {
+/// Whether a header is at the front of octets. It is written so, and what is behind it is the rest.
+fn has_header(alloc: Global, octets: &[u8]) -> Result<bool, Fail> {
+    let Ok((header, rest)) = Header::read_front(octets) else {
         return Ok(false);
     };
     let mut again = Vec::new(alloc);
     header.push(&mut again)?;
+    again.extend_from_slice(rest)?;
     if again.as_slice() != octets {
         return Err("written otherwise than it was read")?;
     }
@@ -232,7 +221,7 @@ fn refused_at(alloc: Global, octets: &mut Vec<u8>, place: usize) -> Result<u64, 
     let mut refused = 0u64;
     for bits in 1..256u32 {
         change(octets, place, bits as u8);
-        if !is_header(alloc, octets.as_slice())? {
+        if !has_header(alloc, octets.as_slice())? {
             refused = refused.saturating_add(1);
         }
         change(octets, place, bits as u8);
@@ -243,25 +232,30 @@ fn refused_at(alloc: Global, octets: &mut Vec<u8>, place: usize) -> Result<u64, 
 #[test]
 fn each_octet_of_a_header_changed(rt: HostRuntime) -> Result<(), Fail> {
     let header = Header {
-        format: FORMAT_VERSION,
-        era: 1,
         generation: 70_000,
-        digest: [0x5a; 16],
-        lines: 5_000_000_000,
+        table: 1,
+        boot: 5_000_000_000,
+        lines: 300,
     };
     let mut octets = Vec::new(rt.alloc());
     header.push(&mut octets)?;
-    // Each other version is refused, but format 1; of a digest every octet is right.
-    assert_eq!(rt; refused_at(rt.alloc(), &mut octets, 0)?, 254);
-    assert_eq!(rt; refused_at(rt.alloc(), &mut octets, 1)?, 255);
-    assert_eq!(rt; refused_at(rt.alloc(), &mut octets, 8)?, 0);
-    // Of a number's mark nearly every other is refused: the era and the lines have one each.
-    let mut refused = 0u64;
-    for place in 2..octets.len() {
-        refused = refused.saturating_add(refused_at(rt.alloc(), &mut octets, place)?);
+    let spelled = octets_of(rt.alloc(), "03 01 fe00011170 01 ff000000012a05f200 fd012c")?;
+    assert_eq!(rt; octets.as_slice(), spelled.as_slice());
+    // How many of the 255 other values of an octet are refused: all versions, a mark of a number that
+    // needs fewer octets than follow, or more than there are, and a first octet that is not needed. A
+    // number of one octet leaves the others behind the header.
+    let refused = [
+        255, 255, 1, 0, 1, 0, 0, 0, 2, 0, 0, 0, 1, 0, 0, 0, 0, 2, 1, 0,
+    ];
+    for (place, count) in refused.iter().enumerate() {
+        assert_eq!(rt;
+            refused_at(rt.alloc(), &mut octets, place)?,
+            *count,
+            "{place}"
+        );
     }
-    assert!(rt; refused > 400, "{refused}");
-    let is_whole = is_header(rt.alloc(), octets.as_slice())?;
+    assert_eq!(rt; refused.len(), octets.len());
+    let is_whole = has_header(rt.alloc(), octets.as_slice())?;
     assert!(rt; is_whole);
     Ok(())
 }

@@ -74,7 +74,7 @@ a tick at the end of time | 01 05 ffffffffffffffffff | [Tick { moment: 184467440
 a stray | 01 06 00 00 02 0f 01 75 00 | \
 [Stray { moment: 0, note: Note { nas: Nas { client: 0, name: Unnamed }, status: 15, name: [117], \
 session: [] } }]
-# format 2: the fields of tags 1, 2 and 4, and after them a station or a delay
+# the fields of tags 1, 2 and 4, and after them a station or a delay
 an ask of a station | 01 07 fe6553f100 02 c0a80110 0400 07 aa*16 01 00 02 6e31 02 6162 | \
 [Own { account: 2, event: Event { moment: 1700000000, act: Ask { key: Key { source: Source { \
 address: [192, 168, 1, 16], port: 1024 }, id: 7, authenticator: [170, 170, 170, 170, 170, 170, 170, \

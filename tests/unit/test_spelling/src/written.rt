@@ -1,7 +1,7 @@
 //! Books, moves and tables as texts, each in the layout of a derived `Debug`, but without a station
 //! that is not there, and without an opening or a delay of 0.
 
-use rld_spelling::{Era, EraAccount, EraClient, Format, Header};
+use rld_spelling::{FormerHeader, FormerTable, Header, Table, TableAccount, TableClient};
 use rsl_session::{KeptAsk, KeptStop, SavedBook, SavedHolder, SavedLink, Session};
 use rsl_shard::Move;
 use std::alloc::Global;
@@ -118,43 +118,63 @@ pub(crate) fn moves_told(alloc: Global, moves: &[Move]) -> Result<String, Fail> 
 
 /// The text of a header.
 pub(crate) fn header_told(alloc: Global, header: &Header) -> Result<String, Fail> {
-    let mut text = String::from_str(alloc, "Header { format: ")?;
-    text.push_str(match header.format {
-        Format::One => "1",
-        Format::Two => "2",
-    })?;
-    push_value(&mut text, ", era: ", &header.era, "")?;
+    let mut text = String::new(alloc);
+    push_value(&mut text, "Header { generation: ", &header.generation, "")?;
+    push_value(&mut text, ", table: ", &header.table, "")?;
+    push_value(&mut text, ", boot: ", &header.boot, "")?;
+    push_value(&mut text, ", lines: ", &header.lines, " }")?;
+    Ok(text)
+}
+
+/// The text of a header of before.
+pub(crate) fn former_header_told(alloc: Global, header: &FormerHeader) -> Result<String, Fail> {
+    let mut text = String::new(alloc);
+    push_value(&mut text, "FormerHeader { era: ", &header.era, "")?;
     push_value(&mut text, ", generation: ", &header.generation, "")?;
     push_value(&mut text, ", digest: ", &header.digest, "")?;
     push_value(&mut text, ", lines: ", &header.lines, " }")?;
     Ok(text)
 }
 
-fn push_account(text: &mut String, account: &EraAccount) -> Result<(), Fail> {
-    push_octets(text, "EraAccount { name: ", &account.name, ", rules: ")?;
+fn push_account(text: &mut String, account: &TableAccount) -> Result<(), Fail> {
+    push_octets(text, "TableAccount { name: ", &account.name, ", rules: ")?;
     push_rules(text, &account.rules)?;
     text.push_str(" }")?;
     Ok(())
 }
 
-fn push_client(text: &mut String, client: &EraClient) -> Result<(), Fail> {
-    push_value(text, "EraClient { address: ", &client.address, " }")
+fn push_client(text: &mut String, client: &TableClient) -> Result<(), Fail> {
+    push_value(text, "TableClient { address: ", &client.address, " }")
+}
+
+fn push_table(text: &mut String, table: &Table) -> Result<(), Fail> {
+    text.push_str("Table { accounts: [")?;
+    for (place, account) in table.accounts.iter().enumerate() {
+        text.push_str(before(place))?;
+        push_account(text, account)?;
+    }
+    text.push_str("], clients: [")?;
+    for (place, client) in table.clients.iter().enumerate() {
+        text.push_str(before(place))?;
+        push_client(text, client)?;
+    }
+    text.push_str("] }")?;
+    Ok(())
 }
 
 /// The text of a table.
-pub(crate) fn era_told(alloc: Global, era: &Era) -> Result<String, Fail> {
+pub(crate) fn table_told(alloc: Global, table: &Table) -> Result<String, Fail> {
     let mut text = String::new(alloc);
-    push_value(&mut text, "Era { boot: ", &era.boot, "")?;
-    push_value(&mut text, ", shards: ", &era.shards, ", accounts: [")?;
-    for (place, account) in era.accounts.iter().enumerate() {
-        text.push_str(before(place))?;
-        push_account(&mut text, account)?;
-    }
-    text.push_str("], clients: [")?;
-    for (place, client) in era.clients.iter().enumerate() {
-        text.push_str(before(place))?;
-        push_client(&mut text, client)?;
-    }
-    text.push_str("] }")?;
+    push_table(&mut text, table)?;
+    Ok(text)
+}
+
+/// The text of a table of before.
+pub(crate) fn former_told(alloc: Global, former: &FormerTable) -> Result<String, Fail> {
+    let mut text = String::new(alloc);
+    push_value(&mut text, "FormerTable { boot: ", &former.boot, "")?;
+    push_value(&mut text, ", shards: ", &former.shards, ", table: ")?;
+    push_table(&mut text, &former.table)?;
+    text.push_str(" }")?;
     Ok(text)
 }

@@ -1,12 +1,13 @@
-//! Account files that change, and what goes on of sessions in the era that follows.
+//! Account files that change, and what goes on of sessions in the generation that follows.
 //!
 //! Before each change the account `nemo` holds three places of three: the session `s1` at 10.0.0.1,
 //! which opened first and was touched last, the session `s2` at 10.0.0.2, and the reservation of
 //! accept number 1 at 10.0.0.1. One request more was refused, and the session `s9` was stopped.
 //! `flopsy` holds the session `f1` at 10.0.0.2.
 
-use crate::server::{alive, ask, commit, pacing, stop_of};
+use crate::server::{alive, ask, commit, pacing, say_header, stop_of};
 use rld_config::NewHistory;
+use rld_folder::Generation;
 use rld_log::Ticks;
 use rld_start::{Started, start};
 use rsl_account_file::read_config_file;
@@ -43,7 +44,17 @@ pub fn changes(rt: &HostRuntime) -> io::Result<()> {
     for name in CHANGES {
         change(rt, name)?;
     }
-    cuts_short(rt, "places_raised")
+    cuts_short(
+        rt,
+        "changed_places_raised",
+        &accounts(rt, "places_raised")?,
+        3,
+        Begins {
+            generation: 2,
+            table: 2,
+            lines: 8,
+        },
+    )
 }
 
 /// The account file of a name.
@@ -96,6 +107,7 @@ fn say_change(
     started: &mut Started<'_>,
 ) -> io::Result<()> {
     println!(rt; "{name}: {}", started.found.greeting(rt.alloc())?)?;
+    say_header(rt, "  ", &started.store.header())?;
     say_all(rt, config, started)?;
     send_again(rt, config, started)
 }
@@ -210,8 +222,8 @@ fn say_link(rt: &HostRuntime, config: &Config, link: &SavedLink) -> io::Result<(
     print!(rt; "/{}", link.touched)
 }
 
-/// How a crash in a change left its folder: the sessions went on in a new era after the old one, or in
-/// the one that had begun.
+/// How a crash in a change left its folder: the sessions went on from the old generation once more, or
+/// from the one that had begun.
 #[derive(Clone, Copy, Debug, PartialEq, Eq)]
 enum Left {
     Old,
@@ -219,37 +231,72 @@ enum Left {
     Neither,
 }
 
-/// What a start finds in a folder that a crash has left, which is as it was then.
-fn left_in(rt: &HostRuntime, folder: &str, config: &Config) -> io::Result<Left> {
+/// What the header says of a generation that begins with other books than those before.
+#[derive(Clone, Copy)]
+pub struct Begins {
+    /// Its number.
+    pub generation: u64,
+    /// The number of its table.
+    pub table: u64,
+    /// The number of moves before it.
+    pub lines: u64,
+}
+
+/// What a start finds in a folder that a crash has left, which is as it was then. As many sessions go on,
+/// in the generation after that one, with its table, after its moves or more, and under the boot
+/// number 1000.
+fn left_in(
+    rt: &HostRuntime,
+    folder: &str,
+    config: &Config,
+    sessions: u64,
+    begins: Begins,
+) -> io::Result<Left> {
     let ticks = Ticks::new();
-    let found = started(rt, folder, config, 1020, &ticks)?.found;
-    let left = match (found.era, found.sessions) {
-        (3, 3) => Left::Old,
-        (2, 3) => Left::New,
+    let started = started(rt, folder, config, 1020, &ticks)?;
+    let found = started.found;
+    let header = started.store.header();
+    let next = begins.generation.saturating_add(1);
+    let is_next = header.generation == next
+        && header.table == begins.table
+        && header.boot == 1000
+        && header.lines >= begins.lines
+        && found.moves == header.lines
+        && found.sessions == sessions;
+    let left = match found.from {
+        Some(Generation::Numbered(number)) if number == begins.generation && is_next => Left::New,
+        Some(Generation::Numbered(number)) if number < begins.generation && is_next => Left::Old,
+        Some(Generation::Former { .. }) if is_next => Left::Old,
         _ => Left::Neither,
     };
-    for name in ["era-3", "log-3-1", "log-2-2"] {
-        let path = format!(in rt.alloc(); "{folder}/{name}")?;
-        let _ = fs::remove_file(rt, path.as_str());
-    }
+    let path = format!(in rt.alloc(); "{folder}/log-{next}")?;
+    fs::remove_file(rt, path.as_str())?;
     Ok(left)
 }
 
-/// A crash at each length of the log with which an era begins: it leaves the old era while the snapshot
-/// is not whole, and then the new one. Says where it leaves neither.
-fn cuts_short(rt: &HostRuntime, name: &str) -> io::Result<()> {
-    let folder = format!(in rt.alloc(); "changed_{name}")?;
-    let log = format!(in rt.alloc(); "{folder}/log-2-1")?;
-    let config = accounts(rt, name)?;
+/// A crash at each length of the log with which other accounts begin: it leaves the old generation while
+/// the snapshot is not whole, and then the new one. Says where it leaves neither.
+pub fn cuts_short(
+    rt: &HostRuntime,
+    folder: &str,
+    config: &Config,
+    sessions: u64,
+    begins: Begins,
+) -> io::Result<()> {
+    let log = format!(in rt.alloc(); "{folder}/log-{}", begins.generation)?;
     let whole = fs::read(rt, log.as_str())?;
     let mut last = Left::Old;
+    let mut old = 0u64;
     for len in 0..=whole.len() {
         fs::write(rt, log.as_str(), &whole[..len])?;
-        let left = left_in(rt, folder.as_str(), &config)?;
+        let left = left_in(rt, folder, config, sessions, begins)?;
         if left == Left::Neither || (left, last) == (Left::Old, Left::New) {
             println!(rt; "cut to {len}: {left:?}")?;
         }
+        if left == Left::Old {
+            old = old.saturating_add(1);
+        }
         last = left;
     }
-    println!(rt; "cut to each length: the old era, and at last {last:?}")
+    println!(rt; "cut to each length: {old} times the old generation, and at last {last:?}")
 }

@@ -1,5 +1,6 @@
 //! What is done to files.
 
+use rld_log::frame_of;
 use std::{fs, io};
 
 /// Adds octets at the end of a file.
@@ -41,4 +42,26 @@ pub fn spoil(rt: &HostRuntime, path: &str, at: usize) -> io::Result<()> {
         *octet ^= 1;
     }
     fs::write(rt, path, all.as_slice())
+}
+
+/// Makes an octet of the payload of a log's first frame, which has this length, another one, and gives the
+/// frame the digest of what it has then.
+pub fn replace_first(
+    rt: &HostRuntime,
+    path: &str,
+    len: usize,
+    at: usize,
+    octet: u8,
+) -> io::Result<()> {
+    let all = fs::read(rt, path)?;
+    if len > 1000 || all.len() < 20 + len {
+        return Err(io::Error::from(io::ErrorKind::InvalidData));
+    }
+    let mut payload = all[20..20 + len].to_vec(rt.alloc())?;
+    if let Some(place) = payload.get_mut(at) {
+        *place = octet;
+    }
+    let mut octets = frame_of(rt.alloc(), payload.as_slice())?;
+    octets.extend_from_slice(&all[20 + len..])?;
+    fs::write(rt, path, octets.as_slice())
 }

@@ -5,14 +5,17 @@
 
 mod changes;
 mod files;
+mod formers;
 mod printed;
 mod reloads;
 mod rolls;
 mod running;
 mod server;
+mod states;
 
 use changes::changes;
-use files::{add, copy, cut, cut_last, empty, spoil};
+use files::{add, copy, cut, cut_last, empty, replace_first, spoil};
+use formers::formers;
 use printed::print;
 use reloads::reloads;
 use rld_folder::Folder;
@@ -21,10 +24,11 @@ use server::{
     OTHERS, OURS, cut_books, each_kind, frame_as_id, late_login, late_restarts, login, record,
     record_both, say, say_if_there, stations, stations_again, tick,
 };
+use states::states;
 use std::{fs, io};
 
-/// Where the four frames of a log begin: a header, a snapshot and two batches.
-const FRAMES: [usize; 4] = [0, 41, 74, 148];
+/// Where the four frames of a log begin: a header with its table, a snapshot and two batches.
+const FRAMES: [usize; 4] = [0, 72, 105, 179];
 
 fn main(rt: HostRuntime) -> io::Result<()> {
     goes_on(&rt)?;
@@ -38,6 +42,8 @@ fn main(rt: HostRuntime) -> io::Result<()> {
     rolls(&rt)?;
     changes(&rt)?;
     reloads(&rt)?;
+    states(&rt)?;
+    formers(&rt)?;
     comes_back_to_the_present(&rt)?;
     wants_a_history(&rt)?;
     keeps_others_out(&rt)
@@ -48,7 +54,7 @@ fn goes_on(rt: &HostRuntime) -> io::Result<()> {
     say(rt, "first", "state", OURS, 1000)?;
     record(rt, "state", login(rt)?, 1500)?;
     say(rt, "after an ask and a Start", "state", OURS, 2000)?;
-    add(rt, "state/log-1-3", b"a torn end")?;
+    add(rt, "state/log-3", b"a torn end")?;
     say(rt, "after a torn end", "state", OURS, 2001)?;
     say(rt, "again", "state", OURS, 2002)
 }
@@ -56,47 +62,62 @@ fn goes_on(rt: &HostRuntime) -> io::Result<()> {
 /// Newer generations without a whole snapshot: an empty log, and half a snapshot. No number is used
 /// again.
 fn passes_over_what_was_not_begun(rt: &HostRuntime) -> io::Result<()> {
-    empty(rt, "state/log-1-9")?;
+    empty(rt, "state/log-9")?;
     say(rt, "after an empty log", "state", OURS, 2003)?;
-    copy(rt, "state/log-1-10", "state/log-1-11")?;
-    cut(rt, "state/log-1-11", 70)?;
+    copy(rt, "state/log-10", "state/log-11")?;
+    cut(rt, "state/log-11", 101)?;
     say(rt, "after half a snapshot", "state", OURS, 2004)
 }
 
-/// One octet of the newest log is another, and then one of the era's table; and a log has the name of
-/// another. What was refused is as it was: once it is mended, the server starts.
+/// One octet of the newest log is another; then, in a whole frame, one of its header or of its table; and a
+/// log has the name of another. What was refused is as it was: once it is mended, the server starts.
 fn refuses_what_is_damaged(rt: &HostRuntime) -> io::Result<()> {
-    copy(rt, "state/log-1-12", "kept")?;
-    for at in [3, 10, 20, 21, 24, 44, 45, 60, 70] {
-        spoil(rt, "state/log-1-12", at)?;
+    copy(rt, "state/log-12", "kept")?;
+    for at in [3, 10, 20, 21, 24, 28, 71, 75, 76, 91, 101] {
+        spoil(rt, "state/log-12", at)?;
         print!(rt; "octet {at}, ")?;
         say(rt, "spoilt", "state", OURS, 2006)?;
-        copy(rt, "kept", "state/log-1-12")?;
+        copy(rt, "kept", "state/log-12")?;
+        let _ = fs::remove_file(rt, "state/log-13");
     }
-    copy(rt, "state/era-1", "kept-era")?;
-    spoil(rt, "state/era-1", 3)?;
-    say(rt, "a spoilt table", "state", OURS, 2007)?;
-    copy(rt, "kept-era", "state/era-1")?;
-    copy(rt, "kept", "state/log-1-99")?;
+    // the payload of 52 octets: the header of 8, the table
+    for (at, octet) in [(0, 4), (1, 2), (2, 13), (8, 0), (9, 0), (51, 2)] {
+        replace_first(rt, "state/log-12", 52, at, octet)?;
+        print!(rt; "octet {at} is {octet}, ")?;
+        say(rt, "in a whole frame", "state", OURS, 2007)?;
+        copy(rt, "kept", "state/log-12")?;
+        let _ = fs::remove_file(rt, "state/log-13");
+    }
+    copy(rt, "kept", "state/log-99")?;
+    add(rt, "state/log-99", b"a torn end")?;
+    copy(rt, "state/log-99", "kept")?;
     say(rt, "another name", "state", OURS, 2008)?;
-    fs::remove_file(rt, "state/log-1-99")?;
+    say(rt, "another name and other accounts", "state", OTHERS, 2008)?;
+    cut_books(rt, "state", OURS, 2008)?;
+    println!(rt;
+        "as it was: {}",
+        fs::read(rt, "state/log-99")? == fs::read(rt, "kept")?
+    )?;
+    fs::remove_file(rt, "state/log-99")?;
     say(rt, "mended", "state", OURS, 2009)
 }
 
-/// A crash in the very first start: the era's file is half written, or no generation was begun.
+/// A crash in the very first start: no generation was begun.
 fn begins_anew_after_a_crash(rt: &HostRuntime) -> io::Result<()> {
     fs::create_dir(rt, "crashed")?;
-    empty(rt, "crashed/era-1")?;
-    say(rt, "after half an era", "crashed", OURS, 3000)?;
-    cut(rt, "crashed/log-2-1", 30)?;
-    say(rt, "after half a generation", "crashed", OURS, 3001)?;
-    say(rt, "again", "crashed", OURS, 3002)
+    empty(rt, "crashed/log-1")?;
+    say(rt, "after an empty log", "crashed", OURS, 3000)?;
+    cut(rt, "crashed/log-2", 30)?;
+    say(rt, "after half a header", "crashed", OURS, 3001)?;
+    cut(rt, "crashed/log-3", 80)?;
+    say(rt, "after half a generation", "crashed", OURS, 3002)?;
+    say(rt, "again", "crashed", OURS, 3003)
 }
 
 /// A later generation whose snapshot is not whole, and none before it.
 fn refuses_a_generation_alone(rt: &HostRuntime) -> io::Result<()> {
     fs::create_dir(rt, "alone")?;
-    empty(rt, "alone/log-1-2")?;
+    empty(rt, "alone/log-2")?;
     say(rt, "a generation alone", "alone", OURS, 4000)
 }
 
@@ -107,11 +128,11 @@ fn prints_each_kind(rt: &HostRuntime) -> io::Result<()> {
     say(rt, "after a move of each kind", "printed", OURS, 1010)?;
     record(rt, "printed", login(rt)?, 1011)?;
     print(rt, "printed", 2)?;
-    add(rt, "printed/log-1-3", b"a torn end")?;
+    add(rt, "printed/log-3", b"a torn end")?;
     print(rt, "printed", 3)?;
-    copy(rt, "printed/log-1-1", "printed/log-1-9")?;
+    copy(rt, "printed/log-1", "printed/log-9")?;
     print(rt, "printed", 9)?;
-    fs::remove_file(rt, "printed/log-1-9")
+    fs::remove_file(rt, "printed/log-9")
 }
 
 /// The lines of a log with stations and delays, and what goes on of them in the next generations.
@@ -127,16 +148,16 @@ fn keeps_stations(rt: &HostRuntime) -> io::Result<()> {
 /// which a session's id is a whole frame, whoever chose it: it is cut off.
 fn tells_lengths_from_names(rt: &HostRuntime) -> io::Result<()> {
     record_both(rt, "lengths", login(rt)?, each_kind(rt)?, 1000)?;
-    copy(rt, "lengths/log-1-1", "kept")?;
+    copy(rt, "lengths/log-1", "kept")?;
     for at in FRAMES {
-        spoil(rt, "lengths/log-1-1", at + 3)?;
+        spoil(rt, "lengths/log-1", at + 3)?;
         print!(rt; "a length at {at}: ")?;
         print(rt, "lengths", 1)?;
         say(rt, "a spoilt length", "lengths", OURS, 1001)?;
-        copy(rt, "kept", "lengths/log-1-1")?;
+        copy(rt, "kept", "lengths/log-1")?;
     }
     record(rt, "lengths", frame_as_id(rt)?, 1002)?;
-    cut_last(rt, "lengths/log-1-2")?;
+    cut_last(rt, "lengths/log-2")?;
     say(
         rt,
         "a torn batch with a whole frame in it",
@@ -147,14 +168,14 @@ fn tells_lengths_from_names(rt: &HostRuntime) -> io::Result<()> {
 }
 
 /// A clock that was ahead: no tick ends the session, until the books are cut to the present. Of a
-/// rebase that a crash cut short the old era is left.
+/// rebase that a crash cut short the generation before is left.
 fn comes_back_to_the_present(rt: &HostRuntime) -> io::Result<()> {
     record(rt, "ahead", late_login(rt)?, 999_990)?;
     say(rt, "a clock that was ahead", "ahead", OURS, 3000)?;
     record(rt, "ahead", tick(rt, 5000)?, 5000)?;
     cut_books(rt, "ahead", OTHERS, 6000)?;
     cut_books(rt, "ahead", OURS, 6000)?;
-    cut(rt, "ahead/log-2-1", 60)?;
+    cut(rt, "ahead/log-4", 100)?;
     say(rt, "after half a rebase", "ahead", OURS, 6001)?;
     cut_books(rt, "ahead", OURS, 6000)?;
     record(rt, "ahead", tick(rt, 7799)?, 7799)?;
@@ -173,7 +194,7 @@ fn wants_a_history(rt: &HostRuntime) -> io::Result<()> {
         Err(error) => return Err(error),
     }
     say_if_there(rt, "no history, and one must exist", "wanted", 8001)?;
-    empty(rt, "wanted/log-1-1")?;
+    empty(rt, "wanted/log-1")?;
     say_if_there(
         rt,
         "half a generation, and a history must exist",

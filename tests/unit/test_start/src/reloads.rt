@@ -1,16 +1,18 @@
-//! Account files that change while a server runs, in a folder that then begins an era, or does not.
+//! Account files that change while a server runs, in a folder that then begins a generation with another
+//! table, or does not.
 
 use crate::changes::{CHANGES, accounts, begin_before, say_all, started};
 use crate::files::copy;
 use crate::rolls::list;
-use crate::server::pacing;
+use crate::server::{commit, pacing, say_header, tick};
+use rld_books::BlankBooks;
 use rld_config::Archive;
-use rld_folder::Folder;
+use rld_folder::{Folder, Generation};
 use rld_log::{MemoryLog, Ticks};
-use rld_spelling::{FORMAT_VERSION, Header};
+use rld_spelling::Header;
 use rld_start::{
-    FolderGenerations, Generations, NextEra, Started, Written, admitted_books, generation_named,
-    has_same_clients, is_same_era, sessions_in,
+    FolderGenerations, Generations, NextLog, Started, Written, admitted_books, changed_header,
+    has_same_clients, has_same_table, sessions_in,
 };
 use rld_store::Store;
 use rsl_accounts::Config;
@@ -23,25 +25,26 @@ const FOLDER: &str = "reloaded";
 /// A second since 1970 at which no file has changed yet.
 const LATER: u64 = 100_000_000_000;
 
-/// Which era and which clients go on as account files change, and how an era begins.
+/// Which tables and which clients are the same as account files change, and how a generation with another
+/// table begins.
 pub fn reloads(rt: &HostRuntime) -> io::Result<()> {
     for name in CHANGES {
         say_same(rt, name)?;
     }
     begins_while_it_runs(rt, "places_lowered")?;
-    keeps_tables_of_logs(rt)
+    puts_each_away(rt)
 }
 
-/// Says whether an era goes on with the account file of a name, and its clients are the same.
+/// Says whether the account file of a name has the same table, and its clients are the same.
 fn say_same(rt: &HostRuntime, name: &str) -> io::Result<()> {
     let old = accounts(rt, "before")?;
     let new = accounts(rt, name)?;
-    let era = is_same_era(&old, &new);
+    let table = has_same_table(&old, &new);
     let clients = has_same_clients(&old, &new);
-    println!(rt; "{name}: the same era {era}, the same clients {clients}")
+    println!(rt; "{name}: the same table {table}, the same clients {clients}")
 }
 
-/// An era that begins with the account file of a name while the server runs, and what a start finds
+/// A generation that begins with the account file of a name while the server runs, and what a start finds
 /// then.
 fn begins_while_it_runs(rt: &HostRuntime, name: &str) -> io::Result<()> {
     begin_before(rt, FOLDER)?;
@@ -49,35 +52,37 @@ fn begins_while_it_runs(rt: &HostRuntime, name: &str) -> io::Result<()> {
     let new = accounts(rt, name)?;
     let ticks = Ticks::new();
     let running = started(rt, FOLDER, &old, 1010, &ticks)?;
-    begin_era(rt, running, &old, &new)?;
+    begin_changed(rt, running, &old, &new)?;
     list(rt, FOLDER)?;
     let again = started(rt, FOLDER, &new, 1011, &ticks)?;
     println!(rt; "then: {}", again.found.greeting(rt.alloc())?)?;
+    say_header(rt, "  ", &again.store.header())?;
     say_all(rt, &new, &again)
 }
 
-/// Begins the era of other accounts, and says what goes on.
-fn begin_era(rt: &HostRuntime, running: Started<'_>, old: &Config, new: &Config) -> io::Result<()> {
-    let Started {
-        folder,
-        store,
-        boot,
-        header,
-        ..
-    } = running;
+/// Begins a generation with other accounts after one move more, and says what goes on.
+fn begin_changed(
+    rt: &HostRuntime,
+    running: Started<'_>,
+    old: &Config,
+    new: &Config,
+) -> io::Result<()> {
+    let mut running = running;
+    commit(rt, &mut running, tick(rt, 1010)?)?;
+    let Started { folder, store, .. } = running;
     let generations = FolderGenerations::new(rt, folder, Archive::Keep, None);
-    let former = generation_named(&header);
-    let Ok(next) = generations.next_era(rt.alloc(), former.era, new, boot) else {
-        return println!(rt; "no era");
+    let former = store.header();
+    let Ok(next) = generations.next_log(rt.alloc(), former.generation) else {
+        return println!(rt; "no log");
     };
     let ticks = Ticks::new();
-    let NextEra {
-        header,
-        log,
-        blanks,
-        ..
-    } = next.paced(pacing(&ticks));
-    let Ok(books) = admitted_books(rt.alloc(), old, former, store.books(), new, blanks) else {
+    let NextLog { key, log } = next.paced(pacing(&ticks));
+    let Some(header) = changed_header(&former, key.generation(), 1) else {
+        return println!(rt; "no header");
+    };
+    let blanks = BlankBooks::none(rt.alloc());
+    let present = Generation::Numbered(former.generation);
+    let Ok(books) = admitted_books(rt.alloc(), old, present, store.books(), new, blanks) else {
         return println!(rt; "no books");
     };
     let Ok(store) = Store::begin_with(rt.alloc(), new, header, books, log) else {
@@ -88,35 +93,35 @@ fn begin_era(rt: &HostRuntime, running: Started<'_>, old: &Config, new: &Config)
         return Err(io::Error::from(ErrorKind::OutOfMemory));
     };
     println!(rt;
-        "era {}, generation {}, lines {}: {} sessions, synced {is_synced}",
-        header.era,
-        header.generation,
-        header.lines,
+        "begun: {} sessions, synced {is_synced}",
         sessions_in(rows.as_slice())
-    )
+    )?;
+    say_header(rt, "  ", &store.header())
 }
 
-/// What becomes of the tables of eras: they stay as long as a log of theirs does, in the folder or in
-/// its archive. That of an era that is not begun yet stays too.
-fn keeps_tables_of_logs(rt: &HostRuntime) -> io::Result<()> {
-    fs::write(rt, "reloaded/era-3", "a part of a table")?;
+/// What becomes of the files before a generation: logs, and the tables and the logs of eras of a version
+/// before. A later log stays.
+fn puts_each_away(rt: &HostRuntime) -> io::Result<()> {
+    fs::write(rt, "reloaded/era-3", "a table")?;
+    fs::write(rt, "reloaded/log-9-9", "a log of before")?;
+    fs::write(rt, "reloaded/log-5", "a later log")?;
     put_away(rt, "keep", Archive::Keep, LATER)?;
     put_away(rt, "none, with an archive", Archive::Nothing, LATER)?;
     put_away(rt, "days, none over", Archive::Days(2), 0)?;
     put_away(rt, "days", Archive::Days(2), LATER)?;
-    copy(rt, "reloaded/log-2-2", "reloaded/log-1-3")?;
+    copy(rt, "reloaded/log-4", "reloaded/log-3")?;
+    copy(rt, "reloaded/log-4", "reloaded/log-9-9")?;
     fs::write(rt, "reloaded/era-1", "a table")?;
     put_away(rt, "none", Archive::Nothing, 0)
 }
 
-/// What a store writes whose generation is the second one of era 2.
+/// What a store writes whose generation is the fourth.
 fn newest_written(rt: &HostRuntime) -> io::Result<Option<Written>> {
     let header = Header {
-        format: FORMAT_VERSION,
-        era: 2,
-        generation: 2,
-        digest: [0; 16],
-        lines: 0,
+        generation: 4,
+        table: 2,
+        boot: 1000,
+        lines: 9,
     };
     let config = accounts(rt, "before")?;
     let log = MemoryLog::new(rt.alloc(), Vec::new(rt.alloc()), Vec::new(rt.alloc()))?;

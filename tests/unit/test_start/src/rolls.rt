@@ -61,6 +61,7 @@ fn stays_where_it_cannot_roll(rt: &HostRuntime) -> io::Result<()> {
         return Ok(());
     };
     running.roll(rt, 0, "octets")?;
+    running.roll_after(rt, 5)?;
     running.commit(rt, login(rt)?)?;
     running.roll(rt, 2, "")?;
     list(rt, "rolled")
@@ -92,9 +93,9 @@ fn keeps_for_days(rt: &HostRuntime) -> io::Result<()> {
     let Some(running) = Running::start(rt, FOLDER, Archive::Days(2), 1005, &ticks)? else {
         return Ok(());
     };
-    fs::write(rt, "rolled/archive/log-1-01", "notes")?;
-    set_changed(rt, "rolled/archive/log-1-1", CHANGED)?;
-    set_changed(rt, "rolled/archive/log-1-01", CHANGED)?;
+    fs::write(rt, "rolled/archive/log-01", "notes")?;
+    set_changed(rt, "rolled/archive/log-1", CHANGED)?;
+    set_changed(rt, "rolled/archive/log-01", CHANGED)?;
     running.put_away(rt, CHANGED + 172_800)?;
     list(rt, "rolled/archive")?;
     running.put_away(rt, CHANGED + 172_801)?;
@@ -104,11 +105,11 @@ fn keeps_for_days(rt: &HostRuntime) -> io::Result<()> {
 /// The newest log is gone, and then an old one stands in its place: what the archive has is not
 /// forgotten in silence.
 fn refuses_a_gap(rt: &HostRuntime) -> io::Result<()> {
-    fs::rename(rt, "rolled/log-1-7", "kept-newest")?;
+    fs::rename(rt, "rolled/log-7", "kept-newest")?;
     say(rt, "no log but in the archive", FOLDER, OURS, 1006)?;
-    copy(rt, "rolled/archive/log-1-2", "rolled/log-1-2")?;
+    copy(rt, "rolled/archive/log-2", "rolled/log-2")?;
     say(rt, "an old log again", FOLDER, OURS, 1007)?;
-    fs::remove_file(rt, "rolled/log-1-2")?;
-    fs::rename(rt, "kept-newest", "rolled/log-1-7")?;
+    fs::remove_file(rt, "rolled/log-2")?;
+    fs::rename(rt, "kept-newest", "rolled/log-7")?;
     say(rt, "mended", FOLDER, OURS, 1008)
 }

@@ -1,12 +1,9 @@
 //! A server that goes from one generation to the next while it runs.
 
-use crate::server::{OURS, pacing, started};
+use crate::server::{OURS, pacing, say_header, started};
 use rld_config::Archive;
 use rld_log::{FileLog, PacedLog, Pacing, Ticks};
-use rld_spelling::Header;
-use rld_start::{
-    FolderGenerations, Generations, NextLog, Started, Written, generation_named, next_header,
-};
+use rld_start::{FolderGenerations, Generations, NextLog, Started, Written, next_header};
 use rld_store::Store;
 use rsl_shard::Move;
 use std::{fs, io};
@@ -17,7 +14,6 @@ pub struct Running<'a> {
     generations: FolderGenerations<'a, HostRuntime>,
     pacing: Pacing<'a>,
     store: Store<PacedLog<'a, FileLog>>,
-    header: Header,
 }
 
 impl<'a> Running<'a> {
@@ -34,20 +30,19 @@ impl<'a> Running<'a> {
                 Started {
                     folder,
                     store,
-                    header,
                     found,
                     ..
                 },
             ) => {
                 println!(rt;
-                    "runs in {}-{}, moves {}",
-                    header.era, header.generation, found.moves
+                    "runs in log-{}, moves {}",
+                    store.header().generation,
+                    found.moves
                 )?;
                 Ok(Some(Running {
                     generations: FolderGenerations::new(rt, folder, archive, None),
                     pacing: pacing(ticks),
                     store,
-                    header,
                 }))
             }
             Err(fault) => {
@@ -68,37 +63,36 @@ impl<'a> Running<'a> {
     /// Goes on in the next generation, after `moves` moves of this one, and says in which. In its
     /// log these octets stand already.
     pub fn roll(&mut self, rt: &HostRuntime, moves: u64, octets: &str) -> io::Result<()> {
-        let present = generation_named(&self.header);
-        let next = match self.generations.next_log(rt.alloc(), present) {
+        let header = self.store.header();
+        let next = match self.generations.next_log(rt.alloc(), header.generation) {
             Ok(next) => next,
             Err(fault) => return println!(rt; "no next log: {fault}"),
         };
         let NextLog { key, log } = next.paced(self.pacing);
-        let number = key.generation().number;
+        let number = key.generation();
         fs::write(
             rt,
-            format!(in rt.alloc(); "rolled/log-1-{number}")?.as_str(),
+            format!(in rt.alloc(); "rolled/log-{number}")?.as_str(),
             octets,
         )?;
-        let Some(header) = next_header(&self.header, number, moves) else {
+        let Some(header) = next_header(&header, number, moves) else {
             return println!(rt; "no header");
         };
         match self.store.roll(rt.alloc(), header, log) {
-            Ok(_older) => {
-                self.header = header;
-                println!(rt;
-                    "goes on in {}-{number}, lines {}",
-                    header.era, header.lines
-                )
-            }
+            Ok(_older) => say_header(rt, "goes on in ", &self.store.header()),
             Err(refused) => {
                 drop(refused.log);
                 let is_gone = self.generations.remove(rt.alloc(), key).is_ok();
-                println!(rt;
-                    "no {}-{number}: {}; gone: {is_gone}",
-                    header.era, refused.fault
-                )
+                println!(rt; "no log-{number}: {}; gone: {is_gone}", refused.fault)
             }
+        }
+    }
+
+    /// Wants a log after a generation that is later than those of the folder, and says the fault.
+    pub fn roll_after(&self, rt: &HostRuntime, present: u64) -> io::Result<()> {
+        match self.generations.next_log(rt.alloc(), present) {
+            Ok(next) => println!(rt; "after log-{present}: log-{}", next.key.generation()),
+            Err(fault) => println!(rt; "after log-{present}: {fault}"),
         }
     }
 

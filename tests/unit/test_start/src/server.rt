@@ -1,8 +1,10 @@
 //! A server that is started and answers a request.
 
 use rld_config::NewHistory;
+use rld_folder::FileName;
 use rld_log::{Pace, Pacing, Ticks, frame_of};
-use rld_start::{StartFault, Started, rebase, start};
+use rld_spelling::Header;
+use rld_start::{Found, StartFault, Started, rebase, start};
 use rsl_account_file::read_config;
 use rsl_event::{Act, Event, Key, Nas, NasName, Note, Source};
 use rsl_reply::Dictionary;
@@ -84,28 +86,34 @@ fn say_with(
 ) -> io::Result<()> {
     let ticks = Ticks::new();
     match started_with(rt, folder, accounts, new_history, now, &ticks) {
-        Ok(
-            Started {
-                found,
-                boot,
-                header,
-                ..
-            },
-        ) => {
-            println!(rt;
-                "{when}: found {}-{}, moves {}, sessions {}, torn {}; boot {boot}, goes on in {}-{}",
-                found.era,
-                found.generation,
-                found.moves,
-                found.sessions,
-                found.torn,
-                header.era,
-                header.generation
-            )?;
+        Ok(Started { store, found, .. }) => {
+            print!(rt; "{when}: ")?;
+            say_found(rt, &found)?;
+            say_header(rt, "; goes on in ", &store.header())?;
             say_behind(rt, found.behind)
         }
         Err(fault) => println!(rt; "{when}: {fault}; status {}", fault.status().number()),
     }
+}
+
+/// Says what a start found.
+fn say_found(rt: &HostRuntime, found: &Found) -> io::Result<()> {
+    match found.from {
+        Some(generation) => print!(rt; "found {}", FileName::Log(generation))?,
+        None => print!(rt; "found no history")?,
+    }
+    print!(rt;
+        ", moves {}, sessions {}, torn {}",
+        found.moves, found.sessions, found.torn
+    )
+}
+
+/// Says the numbers of a header.
+pub fn say_header(rt: &HostRuntime, before: &str, header: &Header) -> io::Result<()> {
+    println!(rt;
+        "{before}log-{}, table {}, boot {}, lines {}",
+        header.generation, header.table, header.boot, header.lines
+    )
 }
 
 /// Says by how many seconds the clock is behind, if that was found.
@@ -126,13 +134,7 @@ pub fn cut_books(rt: &HostRuntime, folder: &str, accounts: &str, now: u64) -> io
         return Err(io::Error::from(io::ErrorKind::OutOfMemory));
     };
     match rebase(rt, rt.alloc(), &config, folder, now) {
-        Ok(done) => println!(rt;
-            "rebased at {now}: {}-{}, moments {}; era {}",
-            done.from().era,
-            done.from().number,
-            done.moments(),
-            done.era()
-        ),
+        Ok(done) => print!(rt; "rebased at {now}: {}", done.line(rt.alloc())?),
         Err(fault) => println!(rt;
             "rebased at {now}: {fault}; status {}",
             fault.status().number()

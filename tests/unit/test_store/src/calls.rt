@@ -10,10 +10,11 @@ use std::process::Abort;
 use std::test::Fail;
 use test_rows::octets_of;
 
-/// The frames of a header, of a snapshot of two new books, and of the tick at 1700000000, with the
+/// The frames of a header with the table, of a snapshot of two new books, and of the tick at 1700000000, with the
 /// digests that `md5sum` prints.
 const GENERATION: &str = "
-00000015 6f285a3faba7555c77ac6023436ae692 02 01 01 01 00*16 00
+0000002a bc9182fa28b556091552d275850d8c38 03 01 01 03 07 00
+02 01 61 01 01 3c fd0384 fd0384 fd0e10 0a 01 62 01 01 3c fd0384 fd0384 fd0e10 0a 01 c0a80110
 0000000d 9a0f7a47ff16017b2519beda93a25b2d 02 00*12
 00000007 ec4ec432ae2a3724607f8bfccdedcb29 01 05 fe 6553f100
 ";
@@ -29,10 +30,11 @@ fn a_generation_has_these_octets(rt: HostRuntime) -> Result<(), Fail> {
     Ok(())
 }
 
-/// The frames of a header, of a snapshot of two new books, of the ticks at 1, 2 and 3, and of that at
+/// The frames of a header with the table, of a snapshot of two new books, of the ticks at 1, 2 and 3, and of that at
 /// 4, with the digests that `md5sum` prints.
 const TWO_BATCHES: &str = "
-00000015 6f285a3faba7555c77ac6023436ae692 02 01 01 01 00*16 00
+0000002a bc9182fa28b556091552d275850d8c38 03 01 01 03 07 00
+02 01 61 01 01 3c fd0384 fd0384 fd0e10 0a 01 62 01 01 3c fd0384 fd0384 fd0e10 0a 01 c0a80110
 0000000d 9a0f7a47ff16017b2519beda93a25b2d 02 00*12
 00000007 d045ae9e036c1fdbc0d3e23aa93a12f1 03 05 01 05 02 05 03
 00000003 361e265bca93633a1fbafde0d2d42b72 01 05 04
@@ -172,7 +174,7 @@ fn a_batch_that_does_not_fit_is_refused(rt: HostRuntime) -> Result<(), Fail> {
     refuse(&rt, &mut store, long)?;
     check_held(&rt, &store, [0, 0])?;
     let log = store.into_log();
-    assert_eq!(rt; log.octets().len(), 74);
+    assert_eq!(rt; log.octets().len(), 95);
     Ok(())
 }
 

@@ -2,7 +2,7 @@
 
 use crate::server::*;
 use rld_log::{Ending, Life, MemoryLog};
-use rld_spelling::{FORMAT_VERSION, Header};
+use rld_spelling::Header;
 use rld_store::{Opened, Store, StoreFault};
 use rsl_event::Decision;
 use std::alloc::Global;
@@ -11,10 +11,9 @@ use std::test::Fail;
 
 /// The header of the second generation.
 const SECOND: Header = Header {
-    format: FORMAT_VERSION,
-    era: 1,
     generation: 2,
-    digest: [0; 16],
+    table: 3,
+    boot: 7,
     lines: 2,
 };
 
@@ -34,8 +33,8 @@ fn the_next_generation_goes_on(rt: HostRuntime) -> Result<(), Fail> {
     let alloc = rt.alloc();
     let mut store = begun(alloc, &[])?;
     ask_twice(&rt, &mut store)?;
-    // the header and the snapshot have 41 and 33 octets, a frame of two asks 77
-    assert_eq!(rt; rolled(alloc, &mut store)?, 151);
+    // the header with the table and the snapshot have 62 and 33 octets, a frame of two asks 77
+    assert_eq!(rt; rolled(alloc, &mut store)?, 172);
     check_held(&rt, &store, [1, 0])?;
     commit_one(&rt, &mut store, ask(1, 3), Decision::Accept(0))?;
     let log = store.into_log();

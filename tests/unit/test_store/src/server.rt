@@ -1,7 +1,7 @@
-//! A server of two accounts with one place each, in two shards, and what happens to it.
+//! A server of two accounts with one place each, and what happens to it.
 
 use rld_log::{Crash, Ending, Life, MemoryLog};
-use rld_spelling::{FORMAT_VERSION, Header};
+use rld_spelling::Header;
 use rld_store::{Opened, Refused, Store, read_frames};
 use rsl_account_file::read_config;
 use rsl_accounts::Config;
@@ -14,7 +14,7 @@ use std::process::Abort;
 use std::test::Fail;
 
 /// The configuration of two accounts.
-const FILE: &str = "version = 1\nshards = 2\nreserve_secs = 60\nlive_secs = 900\n\
+const FILE: &str = "version = 1\nshards = 1\nreserve_secs = 60\nlive_secs = 900\n\
 grace_secs = 900\nclosed_secs = 3600\nkeep_secs = 10\n\
 client = [{ address = \"192.168.1.16\", secret = \"xyzzy5461\" }]\n\
 account = [\n\
@@ -23,10 +23,9 @@ account = [\n\
 
 /// The header of the first generation.
 pub const HEADER: Header = Header {
-    format: FORMAT_VERSION,
-    era: 1,
     generation: 1,
-    digest: [0; 16],
+    table: 3,
+    boot: 7,
     lines: 0,
 };
 

@@ -1,8 +1,8 @@
 //! What comes to a port and what is sent from it, as words.
 
-use crate::memory_port::Arrival;
 use rld_networks::{Network, prefix_of};
 use rld_turn::PeerDatagram;
+use rsl_port::Coming;
 use rsl_wire::Octets;
 use std::alloc::Global;
 use std::net::{IpAddr, SocketAddr};
@@ -68,16 +68,16 @@ fn datagram_of(alloc: Global, word: &str) -> Result<PeerDatagram, Fail> {
 }
 
 /// What comes, of a word.
-fn one_coming(alloc: Global, word: &str) -> Result<Arrival, Fail> {
+fn one_coming(alloc: Global, word: &str) -> Result<Coming<SocketAddr>, Fail> {
     match word {
-        "nothing" => Ok(Arrival::Nothing),
-        "fault" => Ok(Arrival::Fault),
-        _ => Ok(Arrival::Datagram(datagram_of(alloc, word)?)),
+        "nothing" => Ok(Coming::Nothing),
+        "fault" => Ok(Coming::Fault),
+        _ => Ok(Coming::Datagram(datagram_of(alloc, word)?)),
     }
 }
 
 /// What comes, of words: each once, or as often as the number after `*` says.
-pub(crate) fn coming_of(alloc: Global, words: &str) -> Result<Vec<Arrival>, Fail> {
+pub(crate) fn coming_of(alloc: Global, words: &str) -> Result<Vec<Coming<SocketAddr>>, Fail> {
     let mut coming = Vec::new(alloc);
     for word in words.split_ascii_whitespace() {
         let (word, times) = word.split_once('*').unwrap_or((word, "1"));

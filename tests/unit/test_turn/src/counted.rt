@@ -27,7 +27,7 @@ struct Counted<'a, R: Wait + Clock> {
 impl<R: Wait + Clock> Subject for Counted<'_, R> {
     fn found(&self, alloc: Global, fields: &[&str]) -> Result<String, Fail> {
         let scene = scene_of(fields)?;
-        let config = config_of(alloc, scene.shards)?;
+        let config = config_of(alloc, "1")?;
         let mut store = store_of(alloc, &config, scene.disk)?;
         let gate = self.gate.unwrap_or(Gate::of(port_of(scene.port)?));
         let board = Board::new(alloc, config.clients(), &[gate])?;
@@ -89,7 +89,7 @@ impl<R: Wait> Subject for Timed<'_, R> {
             looks: AtomicU64::new(0),
         };
         let scene = scene_of(scene)?;
-        let config = config_of(alloc, scene.shards)?;
+        let config = config_of(alloc, "1")?;
         let mut store = store_of(alloc, &config, scene.disk)?;
         let gate = Gate::of(port_of(scene.port)?);
         let board = Board::new(alloc, config.clients(), &[gate])?;
@@ -124,7 +124,7 @@ impl<R: Wait + Clock> Subject for Renewed<'_, R> {
             return Err("a row with other fields")?;
         };
         let scene = scene_of(scene)?;
-        let config = config_of(alloc, scene.shards)?;
+        let config = config_of(alloc, "1")?;
         let mut store = store_of(alloc, &config, scene.disk)?;
         let gate = Gate::of(port_of(scene.port)?);
         let board = Board::new(alloc, config.clients(), &[gate, gate])?;
@@ -194,16 +194,16 @@ fn push_count(text: &mut String, name: &str, count: u64) -> Result<(), Fail> {
 /// What is counted: each datagram by its end, all of the one client, and those whose answer was sent
 /// with a time.
 const COUNTED: &str = "
-requests by their ends | 1 | auth | 1 | ask short:1025 wrong:1026 half bare:1027 ask:1028 | | 5 1 | \
+requests by their ends | auth | 1 | ask short:1025 wrong:1026 half bare:1027 ask:1028 | | 5 1 | \
     | drop_short=1 drop_bad_length=1 accept=1 reject_limit=1 reject_malformed=1 reject_wrong_password=1 \
     client=6 timed=4
-over several turns | 1 | auth | 2 | ask*65 | | 5 1 | | accept=65 client=65 timed=65
-answers that could not be sent | 1 | auth | 1 | ask wrong | 0 1 | 5 1 | | unsent=2 client=2 timed=0
-a batch that is not recorded | 1 | auth | 1 | ask wrong short | | 5 1 | append 0 \
+over several turns | auth | 2 | ask*65 | | 5 1 | | accept=65 client=65 timed=65
+answers that could not be sent | auth | 1 | ask wrong | 0 1 | 5 1 | | unsent=2 client=2 timed=0
+a batch that is not recorded | auth | 1 | ask wrong short | | 5 1 | append 0 \
     | drop_short=1 unrecorded=1 reject_wrong_password=1 client=3 timed=1
-accounting by its status | 1 | acct | 1 | start stop on stray forged short | | 5 1 | \
+accounting by its status | acct | 1 | start stop on stray forged short | | 5 1 | \
     | drop_short=1 drop_bad_authenticator=1 start=1 stop=1 accounting_on=1 start_unknown=1 client=6 timed=4
-a request at the other port | 1 | acct | 1 | ask | | 5 1 | | drop_wrong_code=1 client=1 timed=0
+a request at the other port | acct | 1 | ask | | 5 1 | | drop_wrong_code=1 client=1 timed=0
 ";
 
 #[test]
@@ -217,10 +217,10 @@ fn datagrams_are_counted_by_their_ends(rt: HostRuntime) -> Result<(), Fail> {
 
 /// The same of asks: each request ends as an ask, and one that is not served has no time.
 const ASKED: &str = "
-requests by their ends | 1 | auth | 1 | ask short:1025 wrong:1026 half bare:1027 ask:1028 | | 5 1 | \
+requests by their ends | auth | 1 | ask short:1025 wrong:1026 half bare:1027 ask:1028 | | 5 1 | \
     | unserved=4 accept=1 reject_limit=1 client=6 timed=2
-answers that could not be sent | 1 | auth | 1 | ask wrong | 0 1 | 5 1 | | unsent=2 client=2 timed=0
-a batch that is not recorded | 1 | auth | 1 | ask wrong short | | 5 1 | append 0 \
+answers that could not be sent | auth | 1 | ask wrong | 0 1 | 5 1 | | unsent=2 client=2 timed=0
+a batch that is not recorded | auth | 1 | ask wrong short | | 5 1 | append 0 \
     | unrecorded=1 unserved=2 client=3 timed=0
 ";
 
@@ -236,12 +236,12 @@ fn asks_are_counted_by_their_ends(rt: HostRuntime) -> Result<(), Fail> {
 /// A turn looks at the clock as it begins, and once when it is over, for all answers that were sent: a time has its
 /// whole seconds and the rest, and none is lost of an answer that takes long.
 const TIMED: &str = "
-under a second | 300 | 1 | auth | 1 | ask | | 5 1 | | timed=1 micros=300000
-a second and a half | 1500 | 1 | auth | 1 | ask | | 5 1 | | timed=1 micros=1500000
-a minute and a quarter of a second | 60250 | 1 | auth | 1 | ask | | 5 1 | | timed=1 micros=60250000
-two in one turn | 1500 | 1 | auth | 1 | ask ask | | 5 1 | | timed=2 micros=3000000
-at the other port | 2001 | 1 | acct | 1 | start | | 5 1 | | timed=1 micros=2001000
-one that was not sent | 1500 | 1 | auth | 1 | ask | 0 | 5 1 | | timed=0 micros=0
+under a second | 300 | auth | 1 | ask | | 5 1 | | timed=1 micros=300000
+a second and a half | 1500 | auth | 1 | ask | | 5 1 | | timed=1 micros=1500000
+a minute and a quarter of a second | 60250 | auth | 1 | ask | | 5 1 | | timed=1 micros=60250000
+two in one turn | 1500 | auth | 1 | ask ask | | 5 1 | | timed=2 micros=3000000
+at the other port | 2001 | acct | 1 | start | | 5 1 | | timed=1 micros=2001000
+one that was not sent | 1500 | auth | 1 | ask | 0 | 5 1 | | timed=0 micros=0
 ";
 
 #[test]
@@ -252,15 +252,15 @@ fn times_of_answers_have_their_seconds(rt: HostRuntime) -> Result<(), Fail> {
 /// What was counted of the one client before is counted of none; what is counted of it afterwards is, if
 /// the cells are for it, and if one looks for as many clients.
 const RENEWED: &str = "
-for as many clients | 1 | 1 | 1 | auth | 1 | ask wrong short | | 5 1 | \
+for as many clients | 1 | 1 | auth | 1 | ask wrong short | | 5 1 | \
     | drop_short=4 accept=4 reject_wrong_password=4 client=6 timed=8
-for more | 3 | 3 | 1 | auth | 1 | ask wrong short | | 5 1 | \
+for more | 3 | 3 | auth | 1 | ask wrong short | | 5 1 | \
     | drop_short=4 accept=4 reject_wrong_password=4 client=6 timed=8
-for none | 0 | 0 | 1 | auth | 1 | ask wrong short | | 5 1 | \
+for none | 0 | 0 | auth | 1 | ask wrong short | | 5 1 | \
     | drop_short=4 accept=4 reject_wrong_password=4 client=0 timed=8
-for more, as one looks for the former ones | 3 | 1 | 1 | auth | 1 | ask wrong short | | 5 1 | \
+for more, as one looks for the former ones | 3 | 1 | auth | 1 | ask wrong short | | 5 1 | \
     | drop_short=4 accept=4 reject_wrong_password=4 client=0 timed=8
-at the other port | 2 | 2 | 1 | acct | 1 | start on short | | 5 1 | \
+at the other port | 2 | 2 | acct | 1 | start on short | | 5 1 | \
     | drop_short=4 start=4 accounting_on=4 client=6 timed=8
 ";
 

@@ -3,7 +3,7 @@
 
 use rld_books::ServerBooks;
 use rld_log::{Crash, Ending, Frames, Life, MemoryLog};
-use rld_spelling::{Counts, FORMAT_VERSION, Header};
+use rld_spelling::{Counts, Header};
 use rld_store::Store;
 use rsl_accounts::Config;
 use rsl_shard::Move;
@@ -13,10 +13,9 @@ use test_rows::{Plain, push_printed, short_number};
 
 /// The header of the first generation.
 const HEADER: Header = Header {
-    format: FORMAT_VERSION,
-    era: 1,
     generation: 1,
-    digest: [0; 16],
+    table: 1,
+    boot: 7,
     lines: 0,
 };
 

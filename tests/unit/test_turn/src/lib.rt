@@ -18,8 +18,6 @@ mod disk;
 #[cfg(test)]
 mod looks;
 #[cfg(test)]
-mod memory_port;
-#[cfg(test)]
 mod notes;
 #[cfg(test)]
 mod refused;

@@ -20,7 +20,7 @@ struct Lines<'a, R: Wait + Clock> {
 impl<R: Wait + Clock> Subject for Lines<'_, R> {
     fn found(&self, alloc: Global, fields: &[&str]) -> Result<String, Fail> {
         let scene = scene_of(fields)?;
-        let config = config_of(alloc, scene.shards)?;
+        let config = config_of(alloc, "1")?;
         let mut store = store_of(alloc, &config, scene.disk)?;
         let board = Board::new(alloc, config.clients(), &[Gate::of(port_of(scene.port)?)])?;
         let refusals = Refusals::new(alloc, 1)?;
@@ -49,18 +49,18 @@ impl<R: Wait + Clock> Subject for Lines<'_, R> {
 /// A client is shown by its address, whichever peer of its networks it was; a peer of no client by its own, one
 /// of IPv6 as RFC 5952 has it, in brackets before the port.
 const LINES: &str = "
-a client | 1 | auth | 1 | short:1025 | | 5 1 | | refused port=auth client=192.168.1.16:1025 cause=drop_short,
-a peer of a network | 1 | auth | 1 | short@2001:db8:7::5 short@192.0.2.9 | | 5 1 | \
+a client | auth | 1 | short:1025 | | 5 1 | | refused port=auth client=192.168.1.16:1025 cause=drop_short,
+a peer of a network | auth | 1 | short@2001:db8:7::5 short@192.0.2.9 | | 5 1 | \
     | refused port=auth client=192.168.1.16:1024 cause=drop_short, \
     refused port=auth client=192.168.1.16:1024 cause=drop_short,
-peers of no client | 1 | auth | 1 | ask@2001:db8:8::5 ask@198.51.100.1 ask@::ffff:198.51.100.2 ask@0.0.0.0 | | 5 1 | \
+peers of no client | auth | 1 | ask@2001:db8:8::5 ask@198.51.100.1 ask@::ffff:198.51.100.2 ask@0.0.0.0 | | 5 1 | \
     | refused port=auth client=[2001:db8:8::5]:1024 cause=drop_unknown_client, \
     refused port=auth client=198.51.100.1:1024 cause=drop_unknown_client, \
     refused port=auth client=198.51.100.2:1024 cause=drop_unknown_client, \
     refused port=auth client=0.0.0.0:1024 cause=drop_unknown_client,
-one at the accounting port | 1 | acct | 1 | start@2001:db8::1 | | 5 1 | \
+one at the accounting port | acct | 1 | start@2001:db8::1 | | 5 1 | \
     | refused port=acct client=[2001:db8::1]:1024 cause=drop_unknown_client,
-accounting of nobody | 1 | acct | 1 | start stray stop | | 5 1 | \
+accounting of nobody | acct | 1 | start stray stop | | 5 1 | \
     | refused port=acct client=192.168.1.16:1024 nas=n account=ghost cause=start_unknown,
 ";
 
