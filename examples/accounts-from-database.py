@@ -39,7 +39,7 @@ import typing
 HEAD = """version = 3
 """
 ACCOUNTS = re.compile(r'^accounts\s*=\s*"([^"\\\n]*)"', re.M)
-# each in the order of a key that does not change: another order of the same accounts would begin a new era for nothing
+# each in the order of a key that does not change: another order of the same accounts would begin a generation for nothing
 CLIENTS_IN_ORDER = "SELECT * FROM client ORDER BY address"
 ACCOUNTS_IN_ORDER = "SELECT * FROM account ORDER BY name"
 GROUPS_IN_ORDER = "SELECT username, groupname FROM radusergroup ORDER BY priority, rowid"
