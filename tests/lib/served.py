@@ -19,7 +19,7 @@ from tests.lib.packets import (  # noqa: F401
     attributes_of, hidden, is_answer,
 )
 from tests.lib.ports import FIRST_PORT, PORTS_END, UNUSED, are_bound, free_ports, udp_sockets  # noqa: F401
-from tests.lib.rows import verdict  # noqa: F401
+from tests.lib.rows import one_that_passes, verdict  # noqa: F401
 from tools.build.programs import in_time, path_of, patience  # noqa: F401
 from tools.build.repository import TOP
 

@@ -11,6 +11,7 @@ It wants Linux and the built program.
 """
 
 import contextlib
+import functools
 import hashlib
 import hmac
 import os
@@ -192,7 +193,7 @@ class Operator:
 
     def held(self):
         """How many places are taken."""
-        return int(dict(line.split()[:2] for line in served.asked("status", self.file)[0].splitlines()[3:15])["held"])
+        return int(dict(line.split()[:2] for line in served.asked("status", self.file)[0].splitlines()[3:14])["held"])
 
 
 def is_sealed(request):
@@ -268,8 +269,29 @@ def cases_of_naks(access, operator):
         yield f"a NAK {what}: it is held", (operator.links(), operator.held()), before
 
 
+def cases_of_one_silence(access, operator, what, answer):
+    """Where no answer comes, the same octets come three times."""
+    before = operator.links(), operator.held()
+    run = operator.begun("nemo", "127.0.0.1", "nas=pop1", "n1")
+    found, times = [], []
+    for _ in range(3):
+        request, peer = access.request()
+        found.append(request)
+        times.append(time.monotonic())
+        answer(request, peer)
+        # which is asked for a second at most: the control waits for no access server
+        yield f"{what}: ready", served.asked("ready", operator.file)[0], "ok\n"
+    yield f"{what}: nothing came", operator.ended(run), ("", SILENT, 5)
+    yield f"{what}: it was asked three times, and no more", access.request(0.2), None
+    yield from served.in_time(f"{what}: after three seconds", time.monotonic() - times[0], 4.5, 2.8)
+    yield f"{what}: the same octets", len(set(found)), 1
+    for early, late in zip(times, times[1:]):
+        yield from served.in_time(f"{what}: a second apart", late - early, 1.5, 0.9)
+    yield f"{what}: it is held", (operator.links(), operator.held()), before
+
+
 def cases_of_silence(access, operator):
-    """Where no answer comes, the same octets come three times; so where what comes is none."""
+    """Where no answer comes, or what comes is none. Each is tried anew where the machine stood still."""
     others = access.bound("127.0.0.1")
 
     def from_another(request, peer):
@@ -277,7 +299,6 @@ def cases_of_silence(access, operator):
         head = struct.pack(">BBH", ACK, request[1], 20)
         others.sendto(head + hashlib.md5(head + request[4:20] + SECRET).digest(), peer)
 
-    before = operator.links(), operator.held()
     for what, answer in (
         ("silence", lambda request, peer: None),
         ("a wrong authenticator", lambda request, peer: access.say(ACK, request, peer, secret=b"another")),
@@ -287,22 +308,7 @@ def cases_of_silence(access, operator):
         ("noise", lambda request, peer: access.asked.sendto(os.urandom(4096), peer)),
         ("another port", from_another),
     ):
-        run = operator.begun("nemo", "127.0.0.1", "nas=pop1", "n1")
-        found, times = [], []
-        for _ in range(3):
-            request, peer = access.request()
-            found.append(request)
-            times.append(time.monotonic())
-            answer(request, peer)
-            # which is asked for a second at most: the control waits for no access server
-            yield f"{what}: ready", served.asked("ready", operator.file)[0], "ok\n"
-        yield f"{what}: nothing came", operator.ended(run), ("", SILENT, 5)
-        yield f"{what}: it was asked three times, and no more", access.request(0.2), None
-        yield from served.in_time(f"{what}: after three seconds", time.monotonic() - times[0], 4.5, 2.8)
-        yield f"{what}: the same octets", len(set(found)), 1
-        for early, late in zip(times, times[1:]):
-            yield from served.in_time(f"{what}: a second apart", late - early, 1.5, 0.9)
-        yield f"{what}: it is held", (operator.links(), operator.held()), before
+        yield from served.one_that_passes(functools.partial(cases_of_one_silence, access, operator, what, answer))
     run = operator.begun("nemo", "127.0.0.1", "nas=pop1", "n1")
     access.request()
     access.say(ACK, *access.request())

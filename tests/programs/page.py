@@ -21,6 +21,7 @@ It wants Linux and the built program.
 """
 
 import contextlib
+import functools
 import html.parser
 import json
 import os
@@ -456,7 +457,7 @@ def main():
             time.sleep(1.5)  # until a look is taken anew, and what was refused is told
             results = [*looked_at(port), *refused(port), *elsewhere(port)]
             results += shown_in_a_browser(port, kept or folder)
-            results += trickled(port)
+            results += served.one_that_passes(functools.partial(trickled, port))
             results += stopped(process, file, port)
         finally:
             if process.poll() is None:
