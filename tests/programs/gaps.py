@@ -30,6 +30,17 @@ WRITTEN = {
     "It is dropped as `drop_nothing`.": "`drop_nothing` is no cause of crates/rld_counts/src/cause.rt",
 }
 CHECKS = "from tools.check import documents; print(documents.check().failed)"
+DIGEST = "from tools.check import edits; print(edits.digest('rsl_steps'))"
+
+# what is written behind a file of a crate with edits, and whether its digest is another one then
+BEHIND = (
+    ("src/decision.rt", "\n// a comment\n", False),
+    ("specs/Run.antt", "\n-- a comment\n", False),
+    ("src/decision.rt", "const MORE: u8 = 1; // a comment\n", True),
+    ("src/decision.rt", "// Makes a move in one shard. Where memory is refused nothing has changed.\n", False),
+    ("src/decision.rt", "/// Makes a move in one shard. Where memory is refused nothing has changed.\n", True),
+    ("must-fail/one_ring_for_a_shard.edit", "\n", True),
+)
 
 
 class Copy:
@@ -151,12 +162,22 @@ def cases_of_documents(copy):
         yield f"found: {fault}", any(line.endswith(fault) for line in printed), True
 
 
+def cases_of_digests(copy):
+    """Comments count for nothing in what edits were tried over, but for those with a text that an edit names."""
+    for path, text, is_counted in BEHIND:
+        path, before = os.path.join("crates/rsl_steps", path), copy.run("python3", "-c", DIGEST)
+        copy.write(path, copy.read(path) + text)
+        is_other = copy.run("python3", "-c", DIGEST) != before
+        yield f"{text.strip()!r} behind {path} counts", is_other, is_counted
+
+
 def cases():
-    """All of it: documents first, as the others take files away."""
+    """All of it: digests and documents first, as the others take files away."""
     with tempfile.TemporaryDirectory() as folder:
         copy = Copy(folder)
         for some in (
-            cases_of_documents, cases_of_words, cases_of_pythons, cases_of_parts, cases_of_programs, cases_of_tests,
+            cases_of_digests, cases_of_documents, cases_of_words, cases_of_pythons, cases_of_parts, cases_of_programs,
+            cases_of_tests,
         ):
             yield from some(copy)
 
