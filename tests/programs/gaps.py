@@ -13,10 +13,9 @@ import tempfile
 from tests.lib import rows
 from tools.build.repository import TOP
 
-# what is taken away, and what is written into README.md: what `documents` says of each
+# what is taken away, and what is written into README.md and at the head of a crate: what `documents` says of each
 TAKEN = {
     "docs/radlimit.8": "docs/radlimit.8 is not there",
-    "crates/rld_text/PROMISES.md": "crates/rld_text/PROMISES.md is not there",
     "docs/ASSURANCE.md": "docs/ASSURANCE.md is not there",
     "examples/late-start.script": "a link to examples/late-start.script, which is not there",
 }
@@ -29,6 +28,16 @@ WRITTEN = {
     "`bench/nothing.py` measures it.": "there is no bench/nothing.py",
     "It is dropped as `drop_nothing`.": "`drop_nothing` is no cause of crates/rld_counts/src/cause.rt",
 }
+HEAD = "crates/rsl_wire/src/lib.rt"
+CITED = {
+    "A packet is read (`read`: `funod`).": "no clause `funod` of read",
+    "A draft is filled (`Draft::pull`; `read`: `found`).": "no call `Draft::pull`",
+    "That is `build`: `bulit`, and no more.": "no clause `bulit` of build",
+    "A `Packte` is in `specs/Packte.antt`.": "nothing is called `specs/Packte.antt`",
+    "Read docs/PROMISE.md first.": "there is no docs/PROMISE.md",
+}
+HEADLESS = "crates/rld_text/src/lib.rt"
+
 CHECKS = "from tools.check import documents; print(documents.check().failed)"
 DIGEST = "from tools.check import edits; print(edits.digest('rsl_steps'))"
 
@@ -157,8 +166,11 @@ def cases_of_documents(copy):
     for path in TAKEN:
         os.remove(os.path.join(copy.top, path))
     copy.write("README.md", copy.read("README.md") + "\n".join(["", *WRITTEN, ""]))
+    copy.write(HEAD, "".join(f"//! {line}\n" for line in CITED) + copy.read(HEAD))
+    copy.write(HEADLESS, copy.read(HEADLESS).replace("//!", "//"))
     _, printed, _ = copy.run("python3", "-c", CHECKS)
-    for fault in (*TAKEN.values(), *WRITTEN.values()):
+    headless = f"{HEADLESS} has no head that says what the crate promises"
+    for fault in (*TAKEN.values(), *WRITTEN.values(), *CITED.values(), headless):
         yield f"found: {fault}", any(line.endswith(fault) for line in printed), True
 
 

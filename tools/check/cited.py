@@ -1,12 +1,14 @@
-"""Whether what the documents on promises cite is there: each call, clause, definition, law, crate and path. It reads names,
-and no meaning: that a clause says what its promise says is for a reader to judge.
+"""Whether what says promises cites is there: each call, clause, definition, law, crate and path. Promises are said by the
+comment at the head of each crate's first source, and by documents. It reads names, and no meaning: that a clause says what
+its promise says is for a reader to judge.
 
-In the last cell of a row of promises stand parts, with `;` between them: calls, a colon, and the names of clauses that
-one of these calls has. A type before the colon may have methods or traits after it; a crate says where what follows it
-stands. What stands in parentheses, or after a word such as `by` or `of`, and each other name of such a document, has to
-stand in a source or a definition."""
+Citations stand in parentheses of a head, and in the last cell of a row of promises. There stand parts, with `;` between
+them: calls, a colon, and the names of clauses that one of these calls has. A type before the colon may have methods or
+traits after it; a crate says where what follows it stands. What stands in parentheses of a cell, or after a word such as
+`by` or `of`, and each other name of a head or such a document, has to stand in a source or a definition."""
 
 import glob
+import itertools
 import os
 import re
 from collections.abc import Iterator
@@ -24,6 +26,10 @@ DOCUMENTS = ("docs/PROMISES.md", "docs/ASSURANCE.md", "docs/ARCHITECTURE.md")
 SPAN = re.compile(r"`([^`\n]+)`")
 NAME = re.compile(r"[A-Za-z_]\w*(?:::[A-Za-z_]\w*)*!?")
 PATH = re.compile(r"(?:\.\./)?(?:[\w.*-]+/)+[\w.*-]*|[\w-]+\.(?:md|rt|antt|py|txt)")
+
+# a line of the comment at the head of a source, and what of a head cites: what stands in parentheses, or has a colon
+HEAD = re.compile(r"//! ?(.*)")
+CITED = re.compile(r"\(([^()]*`[^()]*)\)|(`[^`\n]+`:\s+`[^`\n]+`(?:,\s+`[^`\n]+`)*)")
 
 # what begins an item of a source, at its margin; a function; and a clause
 IMPL = re.compile(r"(?:unsafe )?impl\b(.*)")
@@ -57,6 +63,18 @@ def text_of(path: str) -> str:
         return file.read()
 
 
+def root_of(name: str) -> str:
+    """The first source of a crate, by its path from the top."""
+    return os.path.join("crates", name, "src", "main.rt" if repository.has_program(name) else "lib.rt")
+
+
+def head_of(name: str) -> str:
+    """The comment at the head of a crate's first source, line by line."""
+    path = os.path.join(TOP, root_of(name))
+    lines = map(HEAD.match, text_of(path).splitlines() if os.path.isfile(path) else [])
+    return "\n".join(line[1] for line in itertools.takewhile(bool, lines) if line)
+
+
 def last_name(words: str) -> str:
     """The last name of a path such as fmt::Display."""
     found = re.findall(r"\w+", words)
@@ -65,7 +83,7 @@ def last_name(words: str) -> str:
 
 class Source:
     """What the sources of a crate define: the clauses of each call, by its owner and its name; what each type has by itself
-    and each trait that it has; and every word of sources and definitions."""
+    and each trait that it has; and every word of sources, without their heads, and of definitions."""
 
     def __init__(self, folder: str):
         self.calls: dict[tuple[str | None, str], set[str]] = {}
@@ -76,7 +94,7 @@ class Source:
             for at, _, files in os.walk(os.path.join(folder, part)):
                 for name in files:
                     text = text_of(os.path.join(at, name))
-                    self.words.update(re.findall(r"\w+", text))
+                    self.words.update(re.findall(r"\w+", re.sub(r"^//!.*$", "", text, flags=re.M)))
                     self.words.add(name.partition(".")[0])
                     if part == "src" and name.endswith(".rt"):
                         self.read(text)
@@ -171,7 +189,7 @@ class Crates:
 
 
 class Row:
-    """The last cell of a row of promises of a crate, or of all: what it cites that is not there."""
+    """What a head cites in one place, or the last cell of a row of promises: what of it is not there."""
 
     def __init__(self, crates: Crates, name: str | None):
         # docs/ has no sources: there a crate is named first
@@ -246,29 +264,41 @@ def rows_of(text: str) -> Iterator[tuple[int, str]]:
             yield number, line.strip().strip("|").rpartition(" | ")[2].strip()
 
 
-def missing_in(crates: Crates, path: str, name: str | None) -> Iterator[tuple[int, str]]:
-    """What a document of a crate, or of all, cites that is not there, each with its line."""
-    text = text_of(os.path.join(TOP, path))
-    for number, cell in rows_of(text):
+def without_code(text: str) -> str:
+    """A text with the lines of its blocks of code empty."""
+    kept, is_code = list[str](), False
+    for line in text.splitlines():
+        is_fence = line.startswith("```")
+        is_code ^= is_fence
+        kept.append("" if is_code or is_fence else line)
+    return "\n".join(kept)
+
+
+def cited_in(head: str) -> Iterator[tuple[int, str]]:
+    """What a head cites, a place after the other, each with the number of the line where it begins."""
+    for found in CITED.finditer(head):
+        yield head.count("\n", 0, found.start()) + 1, (found[1] or found[2]).replace("\n", " ")
+
+
+def missing_in(crates: Crates, text: str, name: str | None) -> Iterator[tuple[int, str]]:
+    """What the head of a crate, or a document on all, cites that is not there, each with its line."""
+    text = without_code(text)
+    for number, cell in cited_in(text) if name else rows_of(text):
         yield from ((number, fault) for fault in Row(crates, name).check(cell))
-    is_code = False
     for number, line in enumerate(text.splitlines(), 1):
-        is_code ^= line.startswith("```")
-        for cited in [] if is_code else SPAN.findall(line):
+        for cited in SPAN.findall(line):
             if not is_there(crates, name, cited):
                 yield number, f"nothing is called `{cited}`"
 
 
 def check() -> Outcome:
-    """What documents cite: a document passes where all of it is there. Whether they are there `documents` looks at."""
+    """What heads and documents cite: one passes where all of it is there. Whether they are there `documents` looks at."""
     crates, results = Crates(), []
-    named: list[tuple[str, str | None]] = [
-        (os.path.join("crates", name, "PROMISES.md"), name) for name in repository.product()
-    ]
-    for path, name in [*named, *((document, None) for document in DOCUMENTS)]:
-        if os.path.isfile(os.path.join(TOP, path)):
-            faults = sorted(set(missing_in(crates, path, name)))
-            for number, fault in faults:
-                print(f"{path}:{number}: {fault}")
-            results.append(Outcome(0, len(faults)) if faults else PASSED)
+    told: list[tuple[str, str, str | None]] = [(root_of(name), head_of(name), name) for name in repository.product()]
+    here = [path for path in DOCUMENTS if os.path.isfile(os.path.join(TOP, path))]
+    for path, text, name in [*told, *((path, text_of(os.path.join(TOP, path)), None) for path in here)]:
+        faults = sorted(set(missing_in(crates, text, name)))
+        for number, fault in faults:
+            print(f"{path}:{number}: {fault}")
+        results.append(Outcome(0, len(faults)) if faults else PASSED)
     return comparing.total(results)

@@ -1,5 +1,6 @@
-"""Whether what documents name is there: each link and its anchor, each path of the repository, each other document and each
-manual page; and the documents themselves. What they cite of sources is looked at by `cited`."""
+"""Whether what documents and the heads of crates name is there: each link and its anchor, each path of the repository, each
+other document and each manual page; and the documents and heads themselves. What they cite of sources is looked at by
+`cited`."""
 
 import functools
 import glob
@@ -25,9 +26,6 @@ ANY = re.compile(r"\b(?:NAME|CRATE|PART|VERSION|Subject|module|function|what_it_
 
 # what only a run makes
 MADE = re.compile(r"/out/|\.state$")
-
-# a crate of definitions, which docs/SESSION-RULE.md explains
-WITHOUT_PROMISES = ("rsl_session",)
 
 # a document by its name alone, and a manual page of the product
 DOCUMENT = re.compile(r"(?<![\w./-])([A-Z][A-Z-]+\.md)\b")
@@ -106,11 +104,10 @@ def faults_of_line(path: str, line: str) -> Iterator[str]:
 
 
 def missing_documents() -> Iterator[str]:
-    """Documents that have to be there: the promises of each crate, what `cited` reads, and the manual pages."""
+    """What has to be there: the head of each crate, the documents that `cited` reads, and the manual pages."""
     for name in repository.product():
-        path = os.path.join("crates", name, "PROMISES.md")
-        if name not in WITHOUT_PROMISES and not os.path.exists(os.path.join(TOP, path)):
-            yield f"{path} is not there"
+        if not cited.head_of(name):
+            yield f"{cited.root_of(name)} has no head that says what the crate promises"
     wanted = [*cited.DOCUMENTS, "README.md", "CONTRIBUTING.md", "CHANGELOG.md"]
     wanted += [os.path.join("docs", name) for name in pages() if os.path.join("docs", name) not in aliases()]
     yield from (f"{path} is not there" for path in wanted if not os.path.exists(os.path.join(TOP, path)))
@@ -135,13 +132,15 @@ def faults_of_causes() -> Iterator[str]:
 
 
 def check() -> Outcome:
-    """All documents: one passes where all that it names is there."""
+    """All documents and heads: one passes where all that it names is there."""
     results = [cited.check()]
     for fault in (*missing_documents(), *faults_of_causes()):
         print(fault)
         results.append(comparing.FAILED)
-    for path in documents():
-        lines = enumerate(text_of(path).splitlines(), 1)
+    told = {path: text_of(path) for path in documents()}
+    told |= {cited.root_of(name): cited.head_of(name) for name in repository.product()}
+    for path, text in told.items():
+        lines = enumerate(text.splitlines(), 1)
         faults = [(number, fault) for number, line in lines for fault in faults_of_line(path, line)]
         for number, fault in faults:
             print(f"{path}:{number}: {fault}")

@@ -1,8 +1,17 @@
 //! The program `radlimitd`, the operator's server. `radlimitd run FILE` is the server; the crate
-//! `rld_commands` has its other commands, and `rld_words` reads which of them is asked for.
+//! `rld_commands` has the other commands, and `rld_words` their words. This crate has the edges of
+//! the process. It promises:
+//! - A server runs with the store that its start gave, of the accounts that were read, and with the
+//!   networks of its file, which fit these accounts, also after a reload (private: `run`).
+//! - It has a page exactly where its file has one (private: `web_of`: `none`, `some`), and asks
+//!   come in only where its file says so, as the client named there (private: `asks_of`: `none`,
+//!   `client`).
+//! - Its control socket is given the file's mode, and its folder the file's archive (private:
+//!   `access_of`; `generations_of`: `archive`).
 //!
-//! This crate has the edges of the process: its arguments, its streams, what `run` starts, and the
-//! exit status, which is that of the fault (`exit_code`).
+//! By tests alone: with which status `run` ends (`tests/programs/streams.py`); that a server which
+//! is killed and started again goes on (`tests/programs/radclient-run.sh`,
+//! `tests/programs/killed-server.py`).
 #![tactic(auto)]
 
 mod accounts;

@@ -1,12 +1,19 @@
-//! Asks of whoever has checked a login himself, as FreeRADIUS does: whether the account has a place. They come
-//! over HTTP/1.1 as forms, and are answered as JSON that FreeRADIUS's `rest` module reads.
+//! Asks of whoever has checked a login himself, as FreeRADIUS does: whether the account has a
+//! place. They come over HTTP/1.1 as forms, and are answered as JSON that FreeRADIUS's `rest`
+//! module reads. It promises:
+//! - A form is the ask of `specs/Form.antt`, or its first fault is named (`AskForm::read`: `ok`,
+//!   `fault`).
+//! - An ask is exactly the Access-Request of `specs/Request.antt`, signed with its client's secret.
+//!   The same ask has the same octets, so to the server a repeat is one (`AskForm::request`:
+//!   `octets`).
+//! - What is answered follows from the reply to it (`Outcome::of`; `Outcome::status`,
+//!   `Outcome::text`; `reply_json`).
+//! - A request without the token is refused, and is no ask (`Refusal::of`; `Token::is_shown`).
+//! - The first connection that waits is told the first answer, and so on (`answer_each`).
 //!
-//! The promise: a form is the ask that `specs/Form.antt` says, or the first fault in it is named; an ask is
-//! exactly the Access-Request of `specs/Request.antt`, which its client would have sent, and the same ask has the
-//! same octets, so that to the server a repeat is one; and what is answered is by the reply to it
-//! (`specs/Outcome.antt`, `specs/Reply.antt`), with the response that `specs/Sending.antt` says. Whoever does not
-//! show the token is refused (`specs/Heads.antt`), and each connection is told the answer to its own ask
-//! (`specs/Asking.antt`). There are at most 64 connections, and none waits for another.
+//! No clause says what a connection has read. By tests alone (`tests/programs/asks.py`,
+//! `tests/programs/freeradius-checks.sh`): that answers are to the asks that were gathered, and
+//! that FreeRADIUS reads the JSON.
 #![tactic(auto)]
 
 mod ask_connection;

@@ -1,8 +1,14 @@
-//! The attributes of an accept, as an operator writes them: `Framed-IP-Address = 192.0.2.7`.
+//! The attributes of an accept, as an operator writes them: `Framed-IP-Address = 192.0.2.7`. How a
+//! value is written in each form stands in `specs/Value.antt`. It promises:
+//! - An attribute is told by the name that the dictionary has for it, where the value is of that
+//!   name's form, and else by its numbers as octets (`write_attribute`; `specs/Written.antt`).
+//! - Of a reply each attribute has a line with its octets, but those that each reply has anew
+//!   (`reply_listed`).
+//! - Of an account these are the lines of exactly the accept that the server answers with
+//!   (`accept_listed`).
 //!
-//! The promise: an attribute is told by exactly the name and the value of `specs/Written.antt`, by the
-//! dictionary that is given; how a value is written in each form stands in `specs/Value.antt`. What
-//! `read_attribute` made is told as a text of which it makes the same octets: that is tested over all names.
+//! By tests alone: that `read_attribute` makes the same octets of what is told. Each row of the
+//! dictionary and each name of a value is tried (`tests/programs/replies.py`).
 #![tactic(auto)]
 
 mod accept;

@@ -1,8 +1,17 @@
-//! The commands of `radlimitd`, but `run`: the files that it is started with, what is asked of a running server, and
-//! the faults, each with its exit status. The crate `rld_words` reads their words.
+//! The commands of `radlimitd`, but `run`: the files that it is started with, what is asked of a
+//! running server, and the faults, each with its exit status. The crate `rld_words` reads their
+//! words. It promises:
+//! - An account file is taken only where it fits the server's file: each network's client is there
+//!   and signs under a guard, no network takes another client's address, the client of asks is
+//!   there and trusted, and the file's mode is allowed (`accounts_for`: `known`, `signing`,
+//!   `apart`, `asker`, `closed`).
+//! - A token is taken only from a file that its owner alone can read or write (`token_in`).
+//! - The exit status is that of the fault, or 0; by `free` and `disconnect` 3 says that nothing is
+//!   held (`exit_code`; `specs/Status.antt`; private: `Outcome::of`).
 //!
-//! The promise: what a server has made of a command, and the exit status are those of `specs/Outcome.antt` and
-//! `specs/Status.antt`. No clause speaks of files, of sockets or of what is printed.
+//! The mode is a value here: that the system reported it is read from the code. By tests alone
+//! (`tests/programs/streams.py`): how long an answer is waited for, what `init` writes, what
+//! `check` and `lines` print, on which stream and with which status.
 #![tactic(auto)]
 
 mod answer;

@@ -1,15 +1,18 @@
-//! The server's file that an operator writes, and how the account file that it names fits it.
+//! The server's file that an operator writes, and how the account file that it names fits it. The
+//! keys, and the values that they may have, are in `specs/Key.antt` and `specs/Value.antt`, the
+//! order of the checks is in `specs/Server.antt`. All of it is over the table that the kit's `toml`
+//! parses, and rests on that library's statements. It promises:
+//! - What is read is what the text says, defaults with it; a fault is its first, or that memory was
+//!   refused (`ServerFile::read`: `ok`, `fault`).
+//! - An account file that everybody can write to is refused, and one that everybody can read where
+//!   the server's file does not allow it (`Trust::exposure`). The mode is what the caller passes.
+//! - Networks that do not fit the account file are named (`unknown_client`; `unsigned_client`;
+//!   `shadowed_client`), and so is the client of asks (`asker_fault`).
+//! - The remarks on an account file that is right are exactly those of `specs/Warning.antt`
+//!   (`warnings`).
 //!
-//! `ServerFile::read` answers exactly what `server_of_text` of `specs/Server.antt` says: what the
-//! text says, or its first fault, or that memory was refused. The keys of each table, and the
-//! values that they may have, are in `specs/Key.antt`, and what a TOML value is under a key in
-//! `specs/Value.antt`. `Paths::of` resolves the file's paths (`specs/Paths.antt`), `break_of` finds
-//! where a text stops being TOML (`specs/Place.antt`), and `passed_over` the first key of an account
-//! file's text that counts for nothing before version 3 (`specs/Passed.antt`).
-//!
-//! `warnings` is what an operator should know of an account file that is right: exactly the remarks
-//! that `warnings_of` of `specs/Warning.antt` says. `books_octets` is the memory that the accounts'
-//! books take, by `books_octets` there.
+//! No clause ties the memory that a remark tells to what a book takes, nor says at which place a
+//! text is no TOML. By tests alone: the texts of the faults.
 #![tactic(auto)]
 
 mod archive;

@@ -1,25 +1,20 @@
-//! What an operator asks of a running server by its unix socket, a line at a time, and the end of an
-//! answer: lines, of which the last is `ok`, or `error` and why. It also makes the packets that such
-//! a line leads to. A place is freed by the Stop that the session's access server would have sent,
-//! or all of an access server's by its Accounting-Off. A session is ended by a Disconnect-Request,
-//! which goes to its access server (RFC 5176).
+//! What an operator asks of a running server by its unix socket, a line at a time, and the end of
+//! an answer. Also the packets that a line leads to: a Stop or an Accounting-Off, which frees
+//! places, and a Disconnect-Request (RFC 5176). It promises:
+//! - A line is the command of `specs/Command.antt`, or none (`Command::read`), and the line of a
+//!   command is read as that command, whatever octets its names and ids have (`laws::line_asks`).
+//! - A Stop is of exactly the session that is named, and from its client's address means that Stop
+//!   and nothing else (`Stop::of`: `stop`, `meaning`); so does an Accounting-Off (`Off::of`:
+//!   `meaning`).
+//! - A Disconnect-Request has the octets of `specs/RequestOctets.antt`
+//!   (`DisconnectRequest::octets`: `octets`), and goes to the port of its client, if a link is
+//!   bound (`disconnect_port`).
+//! - A datagram is its answer exactly where `specs/Answer.antt` says so (`read_answer`).
+//! - A link is in a list exactly where it has all that is given (`Wanted::has`).
 //!
-//! The promise of lines: a line is the command that `specs/Command.antt` says, or none; the line of
-//! a command is read as that command, and no name or id in it can be taken for another word
-//! (`specs/Laws.antt`); and an answer says what `specs/Reply.antt` says. A link is wanted in a list
-//! exactly where it has all that is given (`specs/Wanted.antt`).
-//!
-//! The promise of packets: the Stop is of exactly the session that is named, its octets are an
-//! Accounting-Request of RFC 2866 sealed with the client's secret, and its meaning to the server is
-//! that Stop and nothing else (`specs/Stops.antt`). The same holds of the Accounting-Off of an access
-//! server (`specs/Offs.antt`). A Disconnect-Request has exactly the octets of
-//! `specs/RequestOctets.antt`; that for a session that is named has its names and its client's secret
-//! (`specs/Requests.antt`). A datagram is taken for an answer to it only where `specs/Answer.antt` says
-//! so, and what the operator is told of it is in `specs/Disconnecting.antt`.
+//! By tests alone: that each session has a Stop, and that the octets are those that the RFC wants.
 //!
 //! ```
-//! let octets = request.octets(alloc)?;
-//! // up to `TRIES` times, `PAUSE_SECS` apart: send the octets, and read what comes
 //! match read_answer(&octets, request.secret, datagram) {
 //!     Some(DisconnectAnswer::Ack) => {} // the session has ended
 //!     Some(DisconnectAnswer::Nak(cause)) => {} // it has not: `cause_name`

@@ -1,12 +1,18 @@
-//! How the datagrams of each port ended, and asks, and how long answers took: what a server's receivers count, and a
-//! look at it.
+//! How the datagrams of each port ended, and asks, and how long answers took: what a server's
+//! receivers count, and a look at it. A number stops at 2^64 - 1. It promises:
+//! - A datagram is counted by its fate, a cause at a gate, and that says the truth of what the
+//!   datagram means (`laws::fates_are_true`: `told`, `truth`; `specs/Ending.antt`).
+//! - A count is the number of datagrams that had its fate, of whatever was noted (`Counts::note`:
+//!   `own`, `others`, `noted`); two cells added are the cell of the datagrams of both (`Cell::add`:
+//!   `added`).
+//! - When counting by client begins anew, the total counts and the times go on (`Cell::renew`:
+//!   `anew`).
+//! - The counts of a gate are those of all its receivers, when they were read (`cell_of`:
+//!   `counted`).
 //!
-//! The promise: a datagram is counted by its fate, a cause at a gate, as `specs/Ending.antt` has it, which agrees with
-//! what the datagram means (`specs/Laws.antt`, `laws`). For whatever datagrams were noted, a count is the number that
-//! had its fate, and two cells added are the cell of the datagrams of both. When counting by client begins again, the
-//! total counts and the times go on (`specs/Counts.antt`, `specs/Histogram.antt`, `specs/Cell.antt`). Whatever a look
-//! finds of a receiver is the count of some datagrams and of nothing else, and the counts of a gate are those of all
-//! its receivers (`specs/Reading.antt`). A number stops at 2^64 - 1.
+//! No clause says that the words of the causes are right: `test_counts` prints them. That the
+//! counts behind a lock are its receiver's is read from `board.rt`. By tests alone (`test_turn`):
+//! that a watcher counts each datagram once, and that each receiver begins anew.
 #![tactic(auto)]
 
 mod board;

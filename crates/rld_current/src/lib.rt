@@ -1,12 +1,18 @@
-//! What is present in a running server, and the turns that its workers take with it: of datagrams, and of asks.
+//! What is present in a running server, and the turns that its workers take with it: of datagrams,
+//! and of asks. Between the two halves of a turn stands the lock of the server's state, under which
+//! its moves are recorded. It promises:
+//! - Each datagram of a turn is decided with the accounts, networks, boot number and table number
+//!   that are present, and what is recorded is of this table (`Shared::turn`: `turned`;
+//!   `specs/Turning.antt`).
+//! - These are of one state, whose log has the table of these accounts (`Current::of`: `table`,
+//!   `octets`).
+//! - An ask is the Access-Request that its client would have sent, and takes such a turn (private:
+//!   `AskPort::new`: `requests`, `peer`). Its answer says how its own request ended, or none has an
+//!   answer (`AskPlace::take_turn`: `answered`).
 //!
-//! The promise is that of `Shared::turn`: each datagram of a turn is decided with the accounts, the networks, the
-//! boot number and the table's number that are present, and what is recorded is of this table (`specs/Turning.antt`). A turn has
-//! two halves, and between them the lock of the server's state: what waits is taken, its moves are recorded under
-//! the lock, and only then it is answered.
-//!
-//! An ask over HTTP is the Access-Request that its client would have sent (`specs/Requests.antt`), and takes such a
-//! turn. Its answer says how that request ended (`specs/Asking.antt`).
+//! No clause says that what a turn is told of its batch is what the state under the lock answered.
+//! By tests alone: that a turn over sockets answers (`tests/programs/networks.sh`), and that asks
+//! and datagrams share their accounts (`tests/programs/asks.py`).
 #![tactic(auto)]
 
 mod answers;

@@ -1,10 +1,18 @@
 //! The edges of the operator's server: its UDP sockets, its control socket, standard error, and
-//! waiting for them; the requests to access servers that are under way; the jobs of its workers, how
-//! these note their starts and ends, and the faults with which they end. The promise: each socket has
-//! as many receivers as the server's file says (`specs/Jobs.antt`), it is defined which fault of the
-//! workers is the server's, and its exit status (`specs/Fault.antt`), and when a request to an access
-//! server is sent (`specs/Step.antt`). No clause speaks of what a socket gives, or says that a worker
-//! sees what another noted.
+//! waiting for them; the requests to access servers that are under way; the jobs of its workers,
+//! how these note their starts and ends, and the faults with which they end. It promises:
+//! - Each `[[listen]]` has both its sockets, with the receivers that the file says
+//!   (`Sockets::bind`); these receivers, and one worker each for ticks, control, standard error and
+//!   disconnects, are the workers (`Sockets::jobs`; `specs/Jobs.antt`).
+//! - What answers a request to an access server has come from where that was sent, and is an answer
+//!   to its octets (private: `Sent::answer_in`: `peer`, `answer`). A request is sent three times at
+//!   most, a second apart (`Step::of`).
+//! - The fault of a server is the gravest of its workers' (`outcome_of`), with the exit status of
+//!   `specs/Fault.antt` (`RunFault::status`).
+//!
+//! That a socket is bound there is read from `bind_socket`. No clause says what a socket, the
+//! control or standard error gives or takes, how long a wait lasts, what one worker finds of what
+//! another told, or which requests are under way.
 #![tactic(auto)]
 
 mod control;

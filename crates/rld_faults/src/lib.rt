@@ -1,9 +1,12 @@
-//! What is wrong with a server's file or an account file, in sentences with the lines of the file.
+//! What is wrong with a server's file or an account file, in sentences with the lines of the file,
+//! for a person. The readers decide whether a file is taken: `read_config` and `ServerFile::read`.
+//! Once one has refused a text, this crate says why. It promises:
+//! - Of a file that is refused one fault is told at least, and twenty at most (`account_faults`;
+//!   `server_faults`; `misfits`; `fault_of_key`).
 //!
-//! The readers decide whether a file is taken: `read_config` and `ServerFile::read`. Once one has refused a
-//! text, `account_faults` or `server_faults` says why, for a person: all that is wrong with it, and on which
-//! line. `misfits` says what of a server's file does not fit its account file. No clause speaks of the
-//! sentences.
+//! Where the readers' rules and the rows of keys here differ, a fault is told with other words or
+//! without a line: no file is taken or refused for it. No clause speaks of the sentences. By tests
+//! alone (`test_faults`): which faults are told, their sentences, and their lines.
 #![tactic(auto)]
 
 mod account_rows;

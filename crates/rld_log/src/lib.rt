@@ -1,24 +1,19 @@
 //! A log that a crash cannot cheat: a file to which payloads are appended, each in a frame, with a
-//! pace that says when a sync reaches the disk: each time, once a second, or never.
+//! pace that says when a sync reaches the disk: each time, once a second, or never. Read
+//! `specs/Log.antt` first, then `specs/Frames.antt`, `specs/Recording.antt` and
+//! `specs/Pacing.antt`. It promises:
+//! - Once a record has returned, every crash leaves its payload behind those before it (`record`:
+//!   `recorded`). A crash in a call leaves it or not, and all before it (`record`: `crash`).
+//! - A file is read up to a torn end; damage is named by its offset (`Frames::of`: `octets`,
+//!   `damage`).
+//! - No frame stands in one whose write a kill cut short (`laws::kills_are_detected`). That no torn
+//!   write passes MD5 by chance at a loss of power is a premise, `Detects`.
+//! - With a pace of a second, or never, each statement on a crash is on a kill (`PacedLog`: `Log`).
 //!
-//! A payload is recorded before its call returns, and a crash at any moment leaves the payloads
-//! from before the call, with the new one or without it. A torn end is no frame: of a kill that is
-//! proved, of a loss of power it is the premise `Detects` that no torn write passes MD5 by chance.
-//! A torn end is cut off, and its length is reported; a spoilt frame before whole ones is damage,
-//! which is named by its offset and never cut off. A spoilt length, or a spoilt last frame, goes
-//! unnoticed if no frame is found after it by the lengths that are read: it looks torn.
-//!
-//! A sync that does not reach the disk leaves what was appended with the system, so a kill loses
-//! nothing, and a loss of power may.
-//!
-//! Read `specs/Log.antt` first (what a call does to a log, and what a crash may leave), then
-//! `specs/Frames.antt` (what a file has) and `specs/Recording.antt` (what is settled), and last
-//! `specs/Pacing.antt`: over a log with a pace by which a sync need not reach the disk, each
-//! statement on a crash is on a kill. It is trusted that a file of the system behaves as a `Log`
-//! that tells: `file.rt` is written to be read. `MemoryLog` is one that tells, and crashes as a
-//! test asks.
-//!
-//! `rld` stands for RADIUS limit daemon.
+//! This is over a log that tells, as `MemoryLog` does. That a file is one is trusted; read
+//! `file.rt`. A spoilt last frame, or a spoilt length that leads to no frame, looks torn. By tests
+//! alone: a file at a kill (`tests/programs/killed-log.py`), and which syncs reach the disk
+//! (`test_log`). Power was never cut.
 #![tactic(auto)]
 
 mod fault;

@@ -1,11 +1,19 @@
 //! What a running server shows of itself at a moment, as plain data for printing; and refusals, the
-//! datagrams that were not served, with what an operator learns of each.
+//! datagrams that were not served, with what an operator learns of each. It promises:
+//! - Totals are the sums over all accounts (`Totals::of`), and the fullest accounts are the first
+//!   50 in the order of `specs/Accounts.antt` (`fullest_looks`).
+//! - A minute of the history has what came since it began (`History::begin_minute`: `ok`).
+//! - An access server that holds links has one row, with their numbers and their last touch
+//!   (`join_servers`; `specs/AccessServers.antt`).
+//! - A refusal is told as `specs/Refusal.antt` says (`is_refusal`; `Refusal::of`;
+//!   `Refusal::write_line`). Of each cause at most 20 wait, and the others are counted
+//!   (`Backlog::note`: `noted`, `all`).
+//! - A server is well exactly where it is told that it records and its clock is not behind
+//!   (`Health::of`).
 //!
-//! The promise: totals are those of all accounts (`specs/Totals.antt`), the fullest accounts are
-//! the first ones in the order of `specs/Accounts.antt`, and a minute of the history has what came
-//! since it began (`specs/History.antt`). An access server that holds links has one row, with their
-//! numbers and their last touch (`specs/AccessServers.antt`). Which ends are refusals, and what an operator learns of
-//! one, is in `specs/Refusal.antt`.
+//! Read from `take_at`: that what is taken stood behind its receiver's lock. By tests alone
+//! (`test_turn`, `tests/programs/page.py`, `tests/programs/refusals.py`): that a look has all
+//! links, and that a pipe that nobody reads keeps nothing waiting.
 #![tactic(auto)]
 
 mod accounts;

@@ -1,9 +1,15 @@
-//! Networks: prefixes of IPv4 and IPv6 addresses that stand for clients.
-//!
-//! The promise: of the networks that hold an address the one with the longest prefix names its
-//! client, and an address that no network holds is its own IPv4 client or no client's
-//! (`specs/Networks.antt`). What a prefix is, its text, and which addresses it holds, is in
-//! `specs/Prefix.antt`.
+//! Networks: prefixes of IPv4 and IPv6 addresses that stand for clients. What a prefix is, its
+//! text, and which addresses it holds, is in `specs/Prefix.antt`. By tests alone: how a prefix
+//! prints. It promises:
+//! - Of the networks that hold an address the one with the longest prefix says which client it is.
+//!   An IPv4 address in none is itself, an IPv6 address in none is no client's, and ::ffff:a.b.c.d
+//!   counts as a.b.c.d (`client_of`; `specs/Networks.antt`).
+//! - A text is a prefix exactly where it is an address, a slash and a number of bits that fits it,
+//!   with no bit set behind them (`prefix_of`). What an address writes, the kit's reader says
+//!   (`ip_address_of`).
+//! - A socket at one address takes what comes to another where they are the same, or the one is
+//!   0.0.0.0 and the other IPv4, or the one is :: (`covers`). That the system has it so for :: is
+//!   shown by `tests/programs/networks.sh`.
 #![tactic(auto)]
 
 mod address;

@@ -1,11 +1,18 @@
 //! What a running server shows to a browser and to a program, as texts of a `Look`: a page of HTML
-//! with charts of the last hour in SVG, and the accounts as JSON.
+//! with charts of the last hour in SVG, and the accounts as JSON. It promises:
+//! - The page has the octets of `specs/Page.antt`, and nothing else (`page`). Its sections are in
+//!   `specs/Summary.antt` and `specs/Tables.antt`, numbers for people in `specs/Figures.antt`.
+//! - Its charts are those of `specs/Chart.antt`: of each of the last 60 minutes the logins, the
+//!   rejects, and the places held (`write_charts`).
+//! - No text, name or id can begin or end a tag, or end an attribute: whatever is no literal of
+//!   this program is a number, a date or escaped (`Html::text`: `written`, `plain`;
+//!   `specs/Html.antt`).
+//! - The JSON has each account of the look once, in its order, with what it holds
+//!   (`accounts_json`).
 //!
-//! The promise: the page is that of `specs/Page.antt`, whole, with its sections in `specs/Summary.antt` and
-//! `specs/Tables.antt`, its charts in `specs/Chart.antt`, and numbers for people as in
-//! `specs/Figures.antt`. No text, name or id can begin or end a tag of it, or end an attribute, since
-//! whatever is no literal of this program is a number, a date or escaped (`specs/Html.antt`). The
-//! accounts' JSON has each account, in the order of the file, with what it holds (`specs/Json.antt`).
+//! The style sheet is a constant of the program. By tests alone (`test_page`,
+//! `tests/programs/page.py`): that the page is HTML that browsers show as it is meant, and that the
+//! JSON is JSON.
 #![tactic(auto)]
 
 mod accounts;

@@ -1,9 +1,19 @@
-//! The operator's server while it runs: receivers on its UDP sockets, a worker that makes a tick
-//! each second, and workers that answer on the control socket, write to standard error, have sessions
-//! disconnected, show the server and take asks, each on its own thread, over one state under one lock.
-//! `rld_turn` handles a datagram, `rld_state` changes the state, and `rld_edges` has sockets, waits and
-//! faults. The promise: only the calls of `rld_state` change the state, since its fields are private
-//! there; that each worker does its job is read from the code.
+//! The operator's server while it runs: receivers, and workers for ticks, the control socket,
+//! standard error, disconnects, the page and asks, each on its own thread, over one state under one
+//! lock. `rld_state` alone changes the state, since its fields are private there. It promises:
+//! - A server runs only with a store of the accounts that it is given, and with networks that fit
+//!   these (`serve`: `server`, `table`, `networks`, `fit`).
+//! - A receiver ends with `Down` or `Unsynced` alone (private: `Server::take_turn`: `fault`), and a
+//!   generation begins, or is put off, exactly where it is due (private: `Server::roll_after`:
+//!   `due`, `not_due`).
+//! - An operator reads `freed` only where some books and accounts have the record of what he named
+//!   (private: `Server::free`; `TellsFreed`), and after a refusal of an access server never
+//!   `disconnected` (private: `tell_answer`).
+//! - A status shows one state: its accounts, header, moves and rows (private: `Holdings::of`).
+//!
+//! The last two say that such accounts, books and records exist. That they are the server's own is
+//! read from the code and tested (`tests/programs/steering.py`). No clause says that a thread runs,
+//! or what one worker finds of another.
 #![tactic(auto)]
 
 mod accounts;

@@ -1,17 +1,18 @@
 //! What the durable server writes, as octets: the header and the table of a generation, moves and
-//! books.
+//! books. Accounts and clients are numbers below given counts. `specs/Moves.antt`,
+//! `specs/Books.antt`, `specs/TableSpelled.antt`, `specs/Headers.antt` and, for versions before
+//! format 3, `specs/Former.antt` have the spellings; docs/FOLDER.md shows the octets. It promises:
+//! - What is read is spelled so and fits, and what is spelled so is read; else the fault is the
+//!   first, with its offset (`Counts::read_moves`, `read_books`, `Table::read`: `found`, `only`,
+//!   `exact`).
+//! - What is written is the spelling, behind what was there (`Counts::push_moves`, `push_book`,
+//!   `Table::push`: `spelled`). A value is refused exactly where it has none (`unfit` of each).
+//! - The table of every configuration has a spelling (`laws::tables_of_configurations_fit`).
+//! - A header begins with format 3, and any other is refused (`Header::read_front`: `found`,
+//!   `exact`).
 //!
-//! The promise: each value has one spelling, what is read is spelled so, and what is spelled so is
-//! read, whatever follows. Octets that spell nothing give the first fault, with its offset; no
-//! value is read that does not fit. `specs/Moves.antt` has the moves, `specs/Books.antt` the books,
-//! `specs/TableSpelled.antt` the table, `specs/Headers.antt` the header, and `specs/Former.antt` what
-//! versions before format 3 wrote. docs/FOLDER.md shows the octets.
-//!
-//! Accounts and clients are numbers below given counts; this crate knows nothing else of the
-//! configuration.
-//!
-//! They are put together of fields: numbers, octets, flags, options and lists. `specs/Field.antt` says what a field
-//! is; it knows nothing of their meaning.
+//! Where memory is refused while something is written, no clause says what stands behind the
+//! earlier octets. By tests alone (`test_spelling`): that the calls answer where memory is ample.
 #![tactic(auto)]
 
 mod book;

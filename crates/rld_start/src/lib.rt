@@ -1,14 +1,19 @@
-//! The start of a server from its folder.
+//! The start of a server from its folder. `specs/Founds.antt` says which generation counts,
+//! `specs/Going.antt` what goes on, and `specs/Beginnings.antt` when a new history begins. It
+//! promises:
+//! - A start has books and a table of the account file that it was given (`start`: `server`,
+//!   `table`), under a number that no log has (`next_generation`).
+//! - It goes on from the generation that counts: every newer log was read and passed over (private:
+//!   `newest_begun`; `look_in`: `seen`). With other accounts it has what is admitted of those books
+//!   (`change_from`: `admitted`). A new history is new books, begun where none counts (private:
+//!   `take_up`: `new`).
+//! - A rebase has the books cut to the moment that it was given, once its log is on the disk
+//!   (private: `rebase_newest`: `cut`, `synced`).
+//! - Files go only where they are older than a generation whose log is on the disk
+//!   (`Generations::put_away`), and a log alone only by its right (`Generations::remove`).
 //!
-//! The promise: a start goes on from the newest generation that was begun, under a number that no
-//! log has, or it says what prevents that. If the account file is another one, or the log of a
-//! former format, the next generation has the books admitted from the old one. If a clock that was
-//! ahead has led the books past the present, `rebase` begins one with the books cut to it.
-//! `specs/Numbers.antt` says which number follows, `specs/Firsts.antt` when a generation was begun,
-//! `specs/Founds.antt` which one counts, `specs/Going.antt` what goes on, `specs/Beginnings.antt`
-//! when a new history begins, and `specs/Status.antt` the exit status of a server that does not
-//! start. No clause speaks of what the system's files give; `newest.rt` and `starting.rt` are
-//! written to be read.
+//! No clause says what a folder's files have: read `newest.rt` and `starting.rt`. By tests alone
+//! (`test_start`): which generation goes on, and the texts of the faults.
 #![tactic(auto)]
 
 mod beginning;

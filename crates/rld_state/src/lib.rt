@@ -1,15 +1,18 @@
 //! The state of a running server, as it stands behind its lock: the recorder, the accounts of its
-//! books, and the generation that it writes. It records batches, goes on to the next generation, and
-//! to other accounts; and it says when the next generation is due, whether the clock is behind, and
-//! what an operator is to learn. It has no thread, socket or lock of its own.
+//! books, and the generation that it writes. It has no thread and no lock of its own. It promises:
+//! - Books and log are of the accounts that stand beside them (`ServerState`: `server`, `table`).
+//! - A batch is recorded as the store promises (`ServerState::record`: `decisions`, `recorded`).
+//!   One of another table is refused whole, and a store that can record nothing more is asked no
+//!   more (`ServerState::record`: `other_table`, `given_up`).
+//! - A generation that does not begin leaves the present one as it was (`ServerState::roll`:
+//!   `same`). One with other accounts has what is admitted of the books (`ServerState::change`:
+//!   `admitted`), once its log is on the disk (private: `ServerState::enter`: `requires`).
+//! - A session is called freed only where a link was bound to it and its Stop is recorded
+//!   (`ServerState::free`: `freed`), all of an access server once its restart is
+//!   (`ServerState::free_server`: `freed`).
 //!
-//! The promise: of each call, what the recorder promises; a recorder that can record nothing more
-//! is not called again, and a batch of another table is refused whole (`specs/Keeping.antt`); a
-//! generation that does not begin leaves the present one as it was, and one with other accounts
-//! begins with what is admitted of the books, once its log is on the disk (`changing.rt`); and a
-//! session is called freed only where a link was bound to it and its Stop is recorded, and all of an
-//! access server once its restart is (`specs/Freeing.antt`). A page of links has all of some
-//! accounts, one after the other (`specs/Listing.antt`).
+//! What speaks of a history is over a log that tells. No clause says what one worker finds of what
+//! another did, besides what the type keeps.
 #![tactic(auto)]
 
 mod archived;

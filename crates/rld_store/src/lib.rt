@@ -1,13 +1,18 @@
-//! The store: nothing is answered that is not recorded.
+//! The store: nothing is answered that is not recorded. A log is one generation: a header with a
+//! table, a snapshot of books, and the moves that followed (`specs/Generations.antt`).
+//! `specs/Standing.antt` says what history a store stands for. It promises:
+//! - Once a commit has returned, the log has the history and the batch, synced, and the decisions
+//!   are those of the books that there were (`Store::commit`: `recorded`, `settled`, `decisions`).
+//!   Where it fails the books are as before, and the log has perhaps that batch, whole
+//!   (`Store::commit`: `err`, `left`).
+//! - A crash loses nothing of a store's history (`laws::crashes_lose_nothing`), also at any call of
+//!   a roll (`Store::roll`: `crash`).
+//! - A store that is opened stands for the history that its log has (`Store::open`: `stands`);
+//!   damage and foreign octets are named where they stand (`Store::open`: `why`).
+//! - Only `commit` makes a `Recorded`: another does not compile (`tests/programs/unrecorded.py`).
 //!
-//! A batch of moves is written and synced before it is made, so the books are the replay of what is
-//! on the disk, before and after each call. A crash at any call leaves the moves that were
-//! answered, in order, and of a batch that was not yet answered all moves or none. A log is one
-//! generation: a header with the table of the accounts and clients, a snapshot of the books that it
-//! begins with, and the moves that followed.
-//!
-//! Read `specs/Generations.antt` first (what a log has; `specs/Former.antt`: before format 3), then
-//! `specs/Standing.antt` (what a store stands for). `specs/Premises.antt` has what is trusted.
+//! What speaks of a log is over one that tells; `specs/Premises.antt` has what is trusted. By tests
+//! alone (`test_store`): that the calls answer.
 #![tactic(auto)]
 
 mod basis;

@@ -1,15 +1,18 @@
-//! What a running server shows as text. For the control socket: its status, whether it is ready, what
-//! each account holds, the links of one account, and those that are wanted of all, a page at a time;
-//! each but the second also as objects of JSON, for programs. And its metrics in Prometheus' text
-//! format, version 0.0.4.
+//! What a running server shows as text. For the control socket: its status, whether it is ready,
+//! what each account holds, the links of one account, and those that are wanted of all, a page at a
+//! time; each but the second also as JSON. And its metrics in Prometheus' text format, version
+//! 0.0.4. It promises:
+//! - A status has the octets of `specs/Status.antt` (`status_text`; `status_json`), and whether a
+//!   server is ready those of `specs/Ready.antt` (`ready_text`).
+//! - Lists have the lines of `specs/Accounts.antt`, `specs/Links.antt` and `specs/Listing.antt`, in
+//!   which no name or id can forge a word or a line (`accounts_text`, `links_text`, `page_text`).
+//! - In a string of JSON each octet is one character, and none ends the string (`push_string`).
+//! - The metrics have the octets of `specs/Metrics.antt`, and nothing else; the buckets of a
+//!   histogram are cumulative (`push_metrics`).
 //!
-//! The promise: a status has the octets of `specs/Status.antt` and `specs/Recent.antt`, and whether
-//! it is ready those of `specs/Ready.antt`. The lists have the lines of `specs/Accounts.antt`,
-//! `specs/Links.antt` and `specs/Listing.antt`, in which no name or id can forge a word or a line; the
-//! words that name a link's session are those that free it. As JSON each has the octets of the same
-//! definitions, over the strings and members of `specs/Json.antt`. The metrics have the octets of
-//! `specs/Metrics.antt`, and nothing else: a value of a label may have any text, and the buckets of a
-//! histogram are cumulative.
+//! By tests alone: that the definitions of JSON are JSON, by a reader of another maker
+//! (`tests/programs/steering.py`); that the definition of metrics is the text format of Prometheus,
+//! by an example worked out by hand (`test_counts`).
 #![tactic(auto)]
 
 mod accounts;

@@ -1,22 +1,18 @@
-//! The turns of a server, in two halves: `Receiver::gather` takes what waits at a port as one batch, and
-//! `Receiver::answer` answers it, once the server has recorded its moves.
+//! The turns of a server, in two halves: `Receiver::gather` takes what waits at a port as one
+//! batch, and `Receiver::answer` answers it, once the server has recorded its moves. A server sees
+//! the client that a peer stands for (`specs/Present.antt`). It promises:
+//! - At most 64 datagrams are taken. Each is dropped for its cause, refused, or waits; the moves
+//!   are theirs, in order (`Receiver::gather`: `gathered`, `few`).
+//! - Each is then dropped, refused, unrecorded or answered, in order. One with a move is answered
+//!   only if the moves are recorded, with the decision on its own move, over a port that tells to
+//!   the peer that it came from (`Receiver::answer`: `answered`; `specs/Turned.antt`). The decision
+//!   is of a `Recorded`, which `Store::commit` alone makes.
+//! - A watcher is told how each ended, with its cause or answer (`specs/Told.antt`).
+//! - A Status-Server packet has exactly the answer of `specs/StatusAnswer.antt` (`status_answer`).
 //!
-//! The promise is that of the two: each datagram of a turn is dropped, refused, unrecorded
-//! or answered, in the order in which they were taken; an answer has the decision of the books at
-//! that point of the batch, goes to the address that its datagram came from, and is sent only if
-//! the batch was recorded (`specs/Turned.antt`).
-//!
-//! A server sees the client that a peer stands for: what comes from an IPv6 address, or from any
-//! address of a prefix, counts as from that client (`specs/Present.antt`).
-//!
-//! A watcher learns how each datagram ended, with its cause or its answer (`specs/Told.antt`).
-//!
-//! A Status-Server packet (RFC 5997) asks whether the server is up. `status_answer` gives exactly
-//! the octets of `specs/StatusAnswer.antt`, and none for any other datagram; it reads no book and
-//! records nothing.
-//!
-//! An answer with a decision is made of a `Recorded`, which only `Store::commit` makes
-//! (`rld_store`).
+//! Read from the code: that a turn takes until nothing is there. By tests alone (`test_turn`,
+//! `tests/programs/networks.sh`): that an answer comes where memory is there and the batch was
+//! recorded, and that the sockets of `radlimitd` are such ports.
 #![tactic(auto)]
 
 mod answering;

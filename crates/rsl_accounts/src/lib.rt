@@ -1,11 +1,16 @@
 //! The accounts that a RADIUS server serves: clients with their secrets, accounts with their
-//! passwords and session limits, and the settings common to all.
+//! passwords and session limits, and the settings common to all. The values that a field may have
+//! are in `specs/Field.antt`, the order of the checks is in `specs/Walk.antt`. The crate
+//! `rsl_account_file` reads a `Config` from a file. It promises:
+//! - A configuration is made only where every check passes, and a fault is the first in the stated
+//!   order, or that memory was refused (`Config::make`: `ok`, `fault`; `specs/Configuration.antt`).
+//! - Every configuration is within `specs/Limits.antt`: its numbers and texts, and no name and no
+//!   address comes twice (`clients`: `limits`; `accounts`: `limits`; `entry`: `limits`).
+//! - A look-up finds the one there is, and numbers are file order (`client`; `account`; `entry`).
+//! - A secret or a password is lent by one call, and its `Debug` writes a fixed word (`Secret`:
+//!   `expose`: `octets`; `Debug`).
 //!
-//! A `Config` is made from its parts by `Config::make`, which answers exactly what its definition says,
-//! `configuration_of` of `specs/Configuration.antt`, or that memory was refused. Every `Config` is
-//! within the limits of `specs/Limits.antt`. The order of the checks is in `specs/Walk.antt`; the
-//! values that a field may have are in `specs/Field.antt`. The crate `rsl_account_file` reads a
-//! `Config` from a file.
+//! By tests alone: the texts of the faults.
 #![tactic(auto)]
 
 mod address;

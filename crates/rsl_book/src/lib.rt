@@ -1,14 +1,18 @@
-//! One account's running book: what it holds now, carried from event to event.
+//! One account's running book: what it holds now, carried from event to event. What a step makes of
+//! it is `rsl_session/specs/BookStep.antt`, whose laws join it to the session rule. It promises:
+//! - An event makes one step of the running book, with its decision (`Book::apply`: `step`). There
+//!   is no error to return.
+//! - The places are within the limit before and after each step (`Book::apply`: `limit`).
+//! - What was saved of a book is put back as that book (`laws::saved_is_put_back`). One with more
+//!   asks, stops or places than its account may have is refused (`Book::restore`: `limit`,
+//!   `fault`).
 //!
-//! A [`Book`] is stepped by one event at a time, and decides on it without a look back. All the
-//! memory that it will ever use is allocated when it is made, so that no event is refused. What a
-//! step makes of it is the definition in `rsl_session`'s `specs/BookStep.antt`, whose laws join it
-//! to the session rule.
+//! `apply`, `sweep` and `tick` allocate nothing: a book's lists have their room from the start, and
+//! `bench/book.py` measures it. By tests alone: that `new`, `try_copy`, `save` and `restore` answer
+//! where memory is ample.
 //!
-//! Inside, each link keeps its slot until it ends, the last asks and stops are in rings, and each
-//! access server is once in a table, by whose index the others name it. Orders of the slots lead
-//! from a session to its link, from an alive to its reservation, from a bundle and from a station to
-//! its links, to the links touched longest ago, and through all as they opened.
+//! Each link keeps its slot until it ends. Orders of the slots lead from a session, a station, a
+//! bundle and an alive to their links. The last asks and stops are in rings.
 #![tactic(auto)]
 
 mod book;

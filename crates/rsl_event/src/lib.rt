@@ -1,11 +1,18 @@
-//! From a datagram to its meaning, and from a decision to the reply.
+//! From a datagram to its meaning, and from a decision to the reply. Both are functions of octets,
+//! port, source, configuration and boot number, and a reply of the decision too. Read
+//! `specs/Meaning.antt` and `specs/Answer.antt` first, then `specs/Access.antt` and
+//! `specs/Accounting.antt` for the two ports. It promises:
+//! - The meaning of a datagram is the definition's, or the first cause for which it is dropped;
+//!   that covers passwords, signatures and each version's rules (`prepare`: `meaning`).
+//! - A reply has the octets of the definition, and fits the room that was taken before, so it
+//!   cannot fail for want of memory (`reply`; `reply_to`; `prepare`: `prepared`).
+//! - A request without a password asks only where its client is trusted, and has no credential that
+//!   is not checked (by `asks_once` and `has_unchecked_credential`).
+//! - Each cause of a reject is the definition's (`prepare_in_detail`: `detail`), and belongs to a
+//!   request that is rejected (`laws::causes_are_of_rejects`).
 //!
-//! The promise: `prepare` gives the meaning of a datagram that `specs/Meaning.antt` defines, or the
-//! first cause in order for which it is dropped; `reply` gives the octets that `specs/Answer.antt`
-//! defines. Both are functions of their arguments alone: the octets, the port that they came to,
-//! their source, the configuration, the boot number, and for a reply the decision. Read those two
-//! files first, and `specs/Access.antt` and `specs/Accounting.antt` for the two ports; what a
-//! client that signs has to send, and which replies are signed, is in `specs/Signature.antt`.
+//! By tests alone: that the formulas are the RFCs', and that the RFCs' numbers have the right
+//! names.
 #![tactic(auto)]
 
 mod access;

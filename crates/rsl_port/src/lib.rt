@@ -1,8 +1,16 @@
 //! Ports, clocks and pauses: what the receivers and workers of both servers, `radlimit serve` and
-//! `radlimitd`, need from outside. The promise: the numbers of a port of sources count its calls as
-//! `specs/Told.antt` says; a port in memory begins with what it is given, and shows what it kept
-//! and counted; the moments that a clock has shown are those of `specs/Shown.antt`; and what a read
-//! of a UDP socket is to a port is exactly `specs/Socket.antt`.
+//! `radlimitd`, need from outside. It promises:
+//! - The numbers of a port of sources count its calls as `specs/Told.antt` says (`Numbers::new`,
+//!   `note_receive`, `note_send`).
+//! - A port of memory begins with what it is given, and gives what it kept and counted
+//!   (`MemoryPort::new`, `taken`, `sent`, `numbers`).
+//! - A datagram's source is the address and port that the system gave, and a reply's is given to it
+//!   (`source_in`, `socket_addr`).
+//! - Which faults of a read are a turn without a datagram is `specs/Socket.antt` (`reception`).
+//!
+//! The moments that a clock has shown are those of `specs/Shown.antt`. No clause says which moment
+//! the system's clock shows, nor that a port of memory gives what it was made with: tests of
+//! receivers see the second (`test_server`, `test_turn`).
 #![tactic(auto)]
 
 mod address;

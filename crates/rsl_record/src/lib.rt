@@ -1,20 +1,16 @@
 //! The records of a server: the journals of its shards, and what its callers keep of their moves.
+//! What a program says at its end is here too: its table, its output and its exit status. It
+//! promises:
+//! - A record passes only where its segments follow one another from new books and each decision is
+//!   the session rule's; a fault is the first of the walk (`audit`: `kept_right`, `fault`, `exact`;
+//!   `specs/Audit.antt`).
+//! - Journals settle only where no pass and no segment is missing, and each receipt is its own
+//!   line; a fault is the first (`settle`: `settled`, `fault`, `exact`; `specs/Settled.antt`).
+//! - The table that is printed has the octets of `specs/Table.antt` and nothing else
+//!   (`write_table`), an output its lines and its report (`Output::write`). Both speak of writers
+//!   whose contents are known.
 //!
-//! `audit` says whether the record of a shard was kept right (`specs/Audit.antt`), and names the
-//! first fault of one that was not. `settle` says whether the journals of all shards hold the moves
-//! that the callers made, each once, with nothing missing between them.
-//!
-//! Each caller keeps a pass, with a receipt for each move that it made. `settle` compares the
-//! receipts of all passes with the segments of all shards, as plain data: `specs/Segments.antt`
-//! says when the segments of a shard join, `specs/Receipts.antt` what receipts say, and
-//! `specs/Settled.antt` when a record is settled, and which fault is the first of one that is not.
-//!
-//! Both walk over a `Chain`, the state after the lines so far (`specs/Chain.antt`).
-//!
-//! What a program says at its end is here too. `write_table` writes what each account holds as a
-//! table for an operator: the octets of `specs/Table.antt` and nothing else, over any writer,
-//! without allocating. An `Output` is what a program prints, and an `ExitStatus` how it ends
-//! (`specs/Output.antt`, `specs/ExitStatus.antt`).
+//! By tests alone: that a write fault comes only where the writer failed.
 #![tactic(auto)]
 
 mod audit_fault;

@@ -1,8 +1,17 @@
 //! The session rule as a plain program, which looks back over all events of an account for each
-//! question.
+//! question. Read `rsl_session/specs/Rule.antt` first. The laws of the rule are in [`laws`], as
+//! `specs/Laws.antt` states them. It promises:
+//! - The decision on each event of an account is the session rule's (`decide`: `decisions`).
+//! - The places held after its events are the rule's, and at most the account's (`places`: `exact`,
+//!   `limit`).
+//! - What an event does to an account with a past, and its decision, are the rule's (`outcome`:
+//!   `outcome`; `decision`).
+//! - The places are within the limit after every event (`laws::places_stay_within_the_limit`), and
+//!   a repeat is answered as a fresh ask of its key before it was
+//!   (`laws::repeats_are_decided_as_a_fresh_ask`).
 //!
-//! The promise: `decide` and `places` answer as the definitions of `rsl_session` do. Read its
-//! `specs/Rule.antt` first. The laws of the rule are in [`laws`], as `specs/Laws.antt` states them.
+//! By tests alone: that the definitions say what the rule means, by worked timelines (`test_rule`),
+//! and that the calls answer where memory is ample.
 #![tactic(auto)]
 
 mod alive;

@@ -1,14 +1,18 @@
-//! The running server: two receivers on two UDP sockets and a worker that makes ticks, each on its
-//! own thread, over one service.
+//! The running server of `radlimit serve`: two receivers on two UDP sockets and a worker that makes
+//! ticks, each on its own thread, over one service. What a receiver does is in `rsl_service`. It
+//! promises:
+//! - It succeeds only with a closed service, and prints two lines of counts that add up, then the
+//!   table of a report of its configuration (`serve`: `served`; `specs/Served.antt`).
+//! - After every fault but `InputOutput` nothing was written (`serve`: `silent`).
+//! - The arguments are read as `specs/Plan.antt` says (`Plan::read`), and the exit status of a
+//!   fault is that of `specs/Fault.antt` (`ServeFault::status`).
 //!
-//! `serve` does all of it and prints, once both receivers have taken their turns, what they did and
-//! what each account holds. What a datagram does to the accounts, and what a receiver does, is in
-//! `rsl_service`.
-//!
-//! The promise: what `serve` has printed after a success, and its service, which it has closed
-//! (`specs/Served.antt`). What the arguments ask for is exactly `specs/Plan.antt`, what is printed
-//! of the receivers `specs/Output.antt`, and the exit status of each fault `specs/Fault.antt`. A
-//! socket is a port that counts its calls (`rsl_port`).
+//! No clause says that the configuration is FILE's, that the boot number is the second of the
+//! start, that the turns are TURNS, that a worker made ticks, or that the figures of the report are
+//! those of the closed journals. `UdpPort` hands the system the addresses of `rsl_port`: that is
+//! read from its body. By tests alone (`test_server`, `tests/programs/radclient-serve.sh`,
+//! `tests/programs/streams.py`): what a socket gives and takes, and that a repeat has the same
+//! octets.
 #![tactic(auto)]
 
 mod clock;

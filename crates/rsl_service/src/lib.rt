@@ -1,15 +1,18 @@
-//! The service: shards, each under a lock, which several receivers and an expiry worker share.
+//! The service: shards, each under a lock, which several receivers and an expiry worker share. What
+//! is done under a lock is said by the methods of `Desk` (`specs/Made.antt`, `specs/Report.antt`).
+//! It promises:
+//! - A datagram is answered only if its pass has a receipt of each of its moves (`Service::apply`:
+//!   `applied`).
+//! - `close` succeeds only where the record settles, for some journal of each shard
+//!   (`Service::close`: `closed`); a closed service's journals obey the rule
+//!   (`laws::closed_journals_obey_the_rule`).
+//! - A receiver answers, drops or refuses each datagram as `specs/Served.antt` says, over a port
+//!   that tells; over any port its counts are those of the port's calls (`receive`: `served`,
+//!   `calls`).
 //!
-//! The promise: a datagram is answered only if the caller's pass has a receipt of each move that it
-//! made (`specs/Applied.antt`, `specs/Receipts.antt`); and `Service::close` returns Ok only if the
-//! journals hold the moves of all passes, each once, and no others (`specs/Closed.antt`). The
-//! journals of a closed service obey the session rule (`laws`). What is done under a lock is said
-//! exactly by the methods of `Desk` (`specs/Made.antt`, `specs/Report.antt`).
-//!
-//! A receiver takes datagrams from a port and sends the service's answers, and a worker ticks the
-//! shards. Over a port that tells its datagrams, what `receive` made of each is exactly what
-//! `specs/Served.antt` says, and its counts are of that; over any port they agree with the calls
-//! that the port counted (`specs/Counted.antt`, and `specs/Told.antt` of `rsl_port`).
+//! No clause sees what comes out of a lock: that is read from the lines that take the locks
+//! (`make_under_lock`, `cut_under_lock`, `show_under_lock`, `Service::end`). docs/ASSURANCE.md has
+//! the wrong bodies, and `test_service` fails for each. By tests alone: that an answer comes.
 #![tactic(auto)]
 
 mod apply;

@@ -1,11 +1,16 @@
 //! Shards: the books of some accounts, with the journal of what was done to them.
+//! `specs/Moves.antt` says which moves a datagram makes and which of them concern an account,
+//! `specs/Restep.antt` what moves make of the books, `specs/Journal.antt` what the lines of a
+//! journal are, and `specs/Seen.antt` what holds for every shard. It promises:
+//! - A shard's books are what the lines of its journal make of those that the journal begins with,
+//!   and each line has the decision of the books at that point (`Shard::step`: `line`, `decision`,
+//!   `books`).
+//! - A move steps each book by what it means for the book's account (`Books::step`: `books`).
+//! - Where memory is refused nothing has changed (`Shard::step`: `err`).
+//! - A cut hands out the journal, and the shard goes on from equal books (`Shard::cut`: `opening`,
+//!   `lines`, `cut`).
 //!
-//! The promise: a shard's books are what the lines of its journal make of those that the journal
-//! begins with, and each line has the decision of the books at that point.
-//!
-//! What a journal means is defined in `specs/`: `Moves.antt` says which moves a datagram makes and
-//! which of them concern an account, `Restep.antt` what moves make of the books of a shard,
-//! `Journal.antt` what the lines of a journal are, and `Seen.antt` what holds for every shard.
+//! By tests alone: that `Move::try_copy` answers where memory is ample.
 #![tactic(auto)]
 
 mod books;

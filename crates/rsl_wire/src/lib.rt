@@ -1,14 +1,18 @@
-//! RADIUS packets as octets: a datagram is read into the fields of a packet and the list of its
-//! attributes, and fields and attributes are written into octets (RFC 2865 sections 3 and 5).
+//! RADIUS packets as octets (RFC 2865 sections 3 and 5): a datagram is read into a packet's fields
+//! and the list of its attributes, and both are written into octets. It knows nothing of accounts.
+//! Read `specs/Packet.antt`, the grammar, and `specs/Attributes.antt` first. It promises:
+//! - What is read is in the grammar, and nothing in the grammar is refused (`read`: `found`,
+//!   `only`).
+//! - The attributes, joined, are the packet's octets (`Packet::attributes`: `found`, `only`).
+//! - A draft takes an attribute exactly where its value has at most 253 octets and the whole at
+//!   most 4,096; a refusal changes nothing (`Draft::push`: `fits`, `ok`, `err`).
+//! - What is finished is the grammar's octets of the fields (`Draft::finish`; `build`: `built`).
 //!
-//! The promise: what is read is what the packet grammar of `specs/Packet.antt` and the attribute
-//! list of `specs/Attributes.antt` say, and nothing in the grammar is refused; what is written is
-//! in the grammar. Read those two files first. This crate knows octets, and nothing of accounts.
+//! By tests alone: that a datagram of 65,507 octets and a string of 65,535 are taken.
 //!
 //! ```
 //! let packet = read(datagram)?;
 //! let attributes = &packet.attributes()?;
-//! let name = attributes.first(1); // User-Name
 //! let port = attributes.number(5); // NAS-Port
 //!
 //! let mut draft = Draft::new(alloc, packet.id)?;
