@@ -22,10 +22,11 @@ TOP = repository.TOP
 # the documents that are no crate's: each name of theirs is looked for everywhere
 DOCUMENTS = ("docs/PROMISES.md", "docs/ASSURANCE.md", "docs/ARCHITECTURE.md")
 
-# a code span, and what is looked for of those: a name, and a path
+# a code span, and what is looked for of those: a name, a path, and a part of the gate
 SPAN = re.compile(r"`([^`\n]+)`")
 NAME = re.compile(r"[A-Za-z_]\w*(?:::[A-Za-z_]\w*)*!?")
 PATH = re.compile(r"(?:\.\./)?(?:[\w.*-]+/)+[\w.*-]*|[\w-]+\.(?:md|rt|antt|py|txt)")
+PART = re.compile(r"[a-z]+(?:-[a-z]+)+")
 
 # a line of the comment at the head of a source, and what of a head cites: what stands in parentheses, or has a colon
 HEAD = re.compile(r"//! ?(.*)")
@@ -249,6 +250,8 @@ def is_there(crates: Crates, name: str | None, cited: str) -> bool:
     bare = re.sub(r"<.*>", "", cited)
     if PATH.fullmatch(bare.split(" ")[0]):
         return crates.has_path(name, bare.split(" ")[0])
+    if PART.fullmatch(bare):
+        return crates.has_path(None, f"tests/programs/{bare}.*")
     return not NAME.fullmatch(bare) or crates.has_name(None, bare)
 
 

@@ -1,8 +1,9 @@
 //! The program `radlimitd`, the operator's server. `radlimitd run FILE` is the server; the crate
 //! `rld_commands` has the other commands, and `rld_words` their words. This crate has the edges of
 //! the process. It promises:
-//! - A server runs with the store that its start gave, of the accounts that were read, and with the
-//!   networks of its file, which fit these accounts, also after a reload (private: `run`).
+//! - As `serve` requires, a server runs with the store that its start gave, of the accounts that
+//!   were read, and with the networks of its file, which fit these accounts, also after a reload
+//!   (private: `run`).
 //! - It has a page exactly where its file has one (private: `web_of`: `none`, `some`), and asks
 //!   come in only where its file says so, as the client named there (private: `asks_of`: `none`,
 //!   `client`).
