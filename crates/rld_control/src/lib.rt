@@ -4,8 +4,8 @@
 //! - A line is the command of `specs/Command.antt`, or none (`Command::read`), and the line of a
 //!   command is read as that command, whatever octets its names and ids have (`laws::line_asks`).
 //! - A Stop is of exactly the session that is named, and from its client's address means that Stop
-//!   and nothing else (`Stop::of`: `stop`, `meaning`); so does an Accounting-Off (`Off::of`:
-//!   `meaning`).
+//!   and nothing else (`Stop::of`: `stop`, `meaning`); an Accounting-Off means that its access
+//!   server restarts (`Off::of`: `meaning`).
 //! - A Disconnect-Request has the octets of `specs/RequestOctets.antt`
 //!   (`DisconnectRequest::octets`: `octets`), and goes to the port of its client, if a link is
 //!   bound (`disconnect_port`).

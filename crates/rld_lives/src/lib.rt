@@ -4,7 +4,7 @@
 //! - A batch that is recorded has the decisions of the journal of the recorded batches (`live`:
 //!   `outcomes`). The store then stands for them, and perhaps for one more, whole (`live`:
 //!   `lived`).
-//! - Lives one after another do so too, also where one ends within a roll (`lives`: `lived`).
+//! - So it is with lives one after another, also where one ends within a roll (`lives`: `lived`).
 //! - Each answered batch stands in the history, with its decisions
 //!   (`laws::what_is_answered_stands`).
 //! - Over that history each decision is the session rule's, and no account holds more than its

@@ -3,7 +3,7 @@
 //! `specs/Log.antt` first, then `specs/Frames.antt`, `specs/Recording.antt` and
 //! `specs/Pacing.antt`. It promises:
 //! - Once a record has returned, every crash leaves its payload behind those before it (`record`:
-//!   `recorded`). A crash in a call leaves it or not, and all before it (`record`: `crash`).
+//!   `recorded`). A crash in a call leaves those before, with it or without (`record`: `crash`).
 //! - A file is read up to a torn end; damage is named by its offset (`Frames::of`: `octets`,
 //!   `damage`).
 //! - No frame stands in one whose write a kill cut short (`laws::kills_are_detected`). That no torn

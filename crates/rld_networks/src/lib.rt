@@ -1,6 +1,5 @@
 //! Networks: prefixes of IPv4 and IPv6 addresses that stand for clients. What a prefix is, its
-//! text, and which addresses it holds, is in `specs/Prefix.antt`. By tests alone: how a prefix
-//! prints. It promises:
+//! text, and which addresses it holds, is in `specs/Prefix.antt`. It promises:
 //! - Of the networks that hold an address the one with the longest prefix says which client it is.
 //!   An IPv4 address in none is itself, an IPv6 address in none is no client's, and ::ffff:a.b.c.d
 //!   counts as a.b.c.d (`client_of`; `specs/Networks.antt`).
@@ -10,6 +9,8 @@
 //! - A socket at one address takes what comes to another where they are the same, or the one is
 //!   0.0.0.0 and the other IPv4, or the one is :: (`covers`). That the system has it so for :: is
 //!   shown by `tests/programs/networks.sh`.
+//!
+//! By tests alone: how a prefix prints.
 #![tactic(auto)]
 
 mod address;

@@ -11,9 +11,9 @@
 //!   `disconnected` (private: `tell_answer`).
 //! - A status shows one state: its accounts, header, moves and rows (private: `Holdings::of`).
 //!
-//! The last two say that such accounts, books and records exist. That they are the server's own is
-//! read from the code and tested (`tests/programs/steering.py`). No clause says that a thread runs,
-//! or what one worker finds of another.
+//! No clause says that the books and records of which an operator reads are the server's own, that
+//! a thread runs, or what one worker finds of another: that is read from the code and tested
+//! (`tests/programs/steering.py`, `tests/programs/killed-server.py`).
 #![tactic(auto)]
 
 mod accounts;

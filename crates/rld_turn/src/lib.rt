@@ -4,9 +4,9 @@
 //! - At most 64 datagrams are taken. Each is dropped for its cause, refused, or waits; the moves
 //!   are theirs, in order (`Receiver::gather`: `gathered`, `few`).
 //! - Each is then dropped, refused, unrecorded or answered, in order. One with a move is answered
-//!   only if the moves are recorded, with the decision on its own move, over a port that tells to
-//!   the peer that it came from (`Receiver::answer`: `answered`; `specs/Turned.antt`). The decision
-//!   is of a `Recorded`, which `Store::commit` alone makes.
+//!   only if the moves are recorded, with the decision on its own move (`Receiver::answer`:
+//!   `answered`; `specs/Turned.antt`). The decision is of a `Recorded`, which `Store::commit` alone
+//!   makes. Over a port that tells, the answer goes to the peer that asked.
 //! - A watcher is told how each ended, with its cause or answer (`specs/Told.antt`).
 //! - A Status-Server packet has exactly the answer of `specs/StatusAnswer.antt` (`status_answer`).
 //!

@@ -2,8 +2,8 @@
 //! It knows octets and nothing of accounts. Each call gives exactly what its formula over MD5
 //! gives. The formulas are in `specs/Authenticator.antt`, `specs/Password.antt`, `specs/Chap.antt`,
 //! `specs/Hmac.antt` and `specs/Signature.antt`. It promises:
-//! - A reply is sealed (`seal`: `sealed`), and what an accounting request has is checked
-//!   (`accounting_ok`: `test`, `authentic`).
+//! - A reply is sealed (`seal`: `sealed`), and the authenticator of an accounting request is
+//!   checked (`accounting_ok`: `test`, `authentic`).
 //! - A User-Password matches exactly where it has 16, 32, .. or 128 octets and reveals the password
 //!   and NULs after it (`pap_ok`: `test`, `matches`); a CHAP-Password, where its digest is the
 //!   formula's (`chap_ok`: `test`, `answers`).

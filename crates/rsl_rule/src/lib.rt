@@ -7,7 +7,7 @@
 //! - What an event does to an account with a past, and its decision, are the rule's (`outcome`:
 //!   `outcome`; `decision`).
 //! - The places are within the limit after every event (`laws::places_stay_within_the_limit`), and
-//!   a repeat is answered as a fresh ask of its key before it was
+//!   a repeat is answered as the fresh ask of its key was
 //!   (`laws::repeats_are_decided_as_a_fresh_ask`).
 //!
 //! By tests alone: that the definitions say what the rule means, by worked timelines (`test_rule`),
