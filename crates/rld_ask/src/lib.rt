@@ -1,13 +1,12 @@
 //! Asks of whoever has checked a login himself, as FreeRADIUS does: whether the account has a
 //! place. They come over HTTP/1.1 as forms, and are answered as JSON that FreeRADIUS's `rest`
 //! module reads. It promises:
-//! - A form is the ask of `specs/Form.antt`, or its first fault is named (`AskForm::read`: `ok`,
-//!   `fault`).
+//! - A form is the ask of `specs/Form.antt`, or its first fault is told (`AskForm::read`: `fault`).
 //! - An ask is exactly the Access-Request of `specs/Request.antt`, signed with its client's secret.
 //!   The same ask has the same octets, so to the server a repeat is one (`AskForm::request`:
 //!   `octets`).
-//! - What is answered follows from the reply to it (`Outcome::of`; `Outcome::status`,
-//!   `Outcome::text`; `reply_json`).
+//! - What is answered follows from the reply to it (`Outcome::of`; `Outcome::status`;
+//!   `reply_json`).
 //! - A request without the token is refused, and is no ask (`Refusal::of`; `Token::is_shown`).
 //! - The first connection that waits is told the first answer, and so on (`answer_each`).
 //!

@@ -3,8 +3,7 @@
 //! `specs/Cut.antt` what a cut to a moment does, `specs/Carried.antt` and `specs/Admitted.antt`
 //! what goes on with other accounts. It promises:
 //! - A batch is decided as its journal says, and the books are then what its moves make of them
-//!   (`ServerBooks::make_all`: `decisions`, `books`). It cannot fail; no clause speaks of its room,
-//!   which is taken before.
+//!   (`ServerBooks::make_all`: `decisions`, `books`). It cannot fail: its room is taken before.
 //! - What is saved of books that were put back is what they were put back from
 //!   (`ServerBooks::restore`: `saved`).
 //! - After a change each account has the book that is admitted for it (`admit`: `admitted`): one

@@ -10,10 +10,9 @@
 //!   write passes MD5 by chance at a loss of power is a premise, `Detects`.
 //! - With a pace of a second, or never, each statement on a crash is on a kill (`PacedLog`: `Log`).
 //!
-//! This is over a log that tells, as `MemoryLog` does. That a file is one is trusted; read
-//! `file.rt`. A spoilt last frame, or a spoilt length that leads to no frame, looks torn. By tests
-//! alone: a file at a kill (`tests/programs/killed-log.py`), and which syncs reach the disk
-//! (`test_log`). Power was never cut.
+//! This is over a log that tells, as `MemoryLog` does. That a file is one is trusted (`file.rt`). A
+//! spoilt last frame, or a length that leads to no frame, looks torn. By tests alone: a file at a
+//! kill (`tests/programs/killed-log.py`), and what syncs (`test_log`). Power was never cut.
 #![tactic(auto)]
 
 mod fault;

@@ -8,8 +8,7 @@
 //! - A refusal is told as `specs/Refusal.antt` says (`is_refusal`; `Refusal::of`;
 //!   `Refusal::write_line`). Of each cause at most 20 wait, and the others are counted
 //!   (`Backlog::note`: `noted`, `all`).
-//! - A server is well exactly where it is told that it records and its clock is not behind
-//!   (`Health::of`).
+//! - A server is well just where it is told that it records and is not behind (`Health::of`).
 //!
 //! Read from `take_at`: that what is taken stood behind its receiver's lock. By tests alone
 //! (`test_turn`, `tests/programs/page.py`, `tests/programs/refusals.py`): that a look has all

@@ -11,9 +11,8 @@
 //!   `disconnected` (private: `tell_answer`).
 //! - A status shows one state: its accounts, header, moves and rows (private: `Holdings::of`).
 //!
-//! No clause says that the books and records of which an operator reads are the server's own, that
-//! a thread runs, or what one worker finds of another: that is read from the code and tested
-//! (`tests/programs/steering.py`, `tests/programs/killed-server.py`).
+//! No clause says that the books and records of which an operator reads are the server's own, or
+//! what one worker finds of another: that is read, and tested (`tests/programs/steering.py`).
 #![tactic(auto)]
 
 mod accounts;

@@ -5,15 +5,14 @@
 //!   `table`), under a number that no log has (`next_generation`).
 //! - It goes on from the generation that counts: every newer log was read and passed over (private:
 //!   `newest_begun`; `look_in`: `seen`). With other accounts it has what is admitted of those books
-//!   (`change_from`: `admitted`). A new history is new books, begun where none counts (private:
-//!   `take_up`: `new`).
+//!   (`change_from`: `admitted`). If none counts it has new books (private: `take_up`: `new`).
 //! - A rebase has the books cut to the moment that it was given, once its log is on the disk
 //!   (private: `rebase_newest`: `cut`, `synced`).
 //! - Files go only where they are older than a generation whose log is on the disk
 //!   (`Generations::put_away`), and a log alone only by its right (`Generations::remove`).
 //!
-//! No clause says what a folder's files have: read `newest.rt` and `starting.rt`. By tests alone
-//! (`test_start`): which generation goes on, and the texts of the faults.
+//! No clause says what a folder's files have: read `newest.rt`, `starting.rt`. By tests alone
+//! (`test_start`): which generation goes on, and the faults' texts.
 #![tactic(auto)]
 
 mod beginning;
