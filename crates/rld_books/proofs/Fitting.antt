@@ -7,8 +7,9 @@ use Rattle.rsl_book.specs.Restored.{misfit}
 use Rattle.rsl_book.specs.declared.restore_fault.RestoreFault.{RestoreFault}
 use Rattle.rsl_book.specs.declared.restore_fault.RestoreFault.TheVariants.{TooManyAsks, TooManyPlaces, TooManyStops}
 use Rattle.rsl_session.specs.Ask.{KEPT_ASKS}
-use Rattle.rsl_session.specs.Book.{Book, places_in}
+use Rattle.rsl_session.specs.Book.{Book, bundles_in, new_book, places_in}
 use Rattle.rsl_session.specs.Closed.{KEPT_STOPS}
+use Rattle.rsl_session.specs.Places.{each_bundle, places_of}
 use Rattle.rsl_session.specs.declared.kept.KeptAsk.{KeptAsk}
 use Rattle.rsl_session.specs.declared.kept.KeptStop.{KeptStop}
 use Rattle.rld_books.specs.Carried.{Next, asks_on, carried_ask, carried_book, carried_stop, goes_on, stops_on}
@@ -62,3 +63,15 @@ unfolding carried_book
 fits_again next before rules book none =
     let few = no_fault before book none in
     fits rules (carried_book next rules book) (omega (arith, few_asks next book.asks, few.asks)) (omega (arith, few_stops next book.stops, few.stops)) (limit_holds next rules book)
+
+-- a new book fits any rules
+no_places : (rules : Rules) → places_in rules new_book ≡ 0
+unfolding places_in bundles_in new_book places_of each_bundle
+no_places rules = refl
+
+few_in_new : IsFew new_book
+unfolding new_book
+few_in_new = record { asks = omega arith; stops = omega arith }
+
+pub new_fits : (rules : Rules) → misfit rules new_book ≡ None
+new_fits rules = fits rules new_book few_in_new.asks few_in_new.stops (omega (arith, no_places rules))

@@ -3,6 +3,7 @@ pub mod Callers
 pub mod Cutting
 pub mod Dealing
 pub mod Making
+pub mod Misfits
 pub mod Numbered
 pub mod Saving
 pub mod Stepping

@@ -3,6 +3,7 @@ pub mod Begun
 pub mod Blank
 pub mod Carried
 pub mod Clocks
+pub mod Configured
 pub mod Cut
 pub mod CutLaws
 pub mod Dealt

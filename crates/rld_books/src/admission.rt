@@ -1,12 +1,12 @@
 //! The books that go on when other accounts take the place of the present ones.
 
-ghost use Rattle.std.specs.Prelude.{◌≡◌, IfOk, map};
+ghost use Rattle.std.specs.Prelude.{◌≡◌, IfOk, IfSome, IsOkUnless, None, OnOk, map};
 ghost use Rattle.std.specs.Option.{option_and_then, option_map};
 ghost use Rattle.rsl_accounts.specs.Configuration.{account_number};
 ghost use Rattle.rsl_accounts.specs.Limits.{RulesFit};
-ghost use Rattle.rsl_book.specs.Restored.{saved};
+ghost use Rattle.rsl_book.specs.Restored.{misfit, saved};
 ghost use Rattle.rsl_session.specs.Saved.{saved_book};
-ghost use Rattle.rld_books.specs.Saved.{IsServerOf, book_in};
+ghost use Rattle.rld_books.specs.Saved.{IsFit, IsServerOf, book_in, server_misfit};
 ghost use Rattle.rld_spelling.specs.Tables.{table_of};
 ghost use Rattle.rld_books.specs.Admitted.{AreAdmitted};
 ghost use Rattle.rld_books.specs.Begun.{begun_book, begun_by_all};
@@ -35,8 +35,10 @@ struct Passage<'a> {
 impl Passage<'_> {
     /// The saved form of the book of a name.
     fn kept(&self, alloc: Global, name: &[u8]) -> Result<Option<SavedBook>, NoMemory>
-        ensures { IfOk result (λ kept. option_map saved_book kept ≡ option_map saved
+        ensures saved { IfOk result (λ kept. option_map saved_book kept ≡ option_map saved
             (option_and_then (book_in self.now.books.now) (account_number self.now.old.now name.now))) }
+        ensures fits { IfSome
+            (option_and_then (book_in self.now.books.now) (account_number self.now.old.now name.now)) IsFit }
     {
         match self.old.account(name) {
             Some(account) => self.books.save_book(alloc, account),
@@ -47,8 +49,10 @@ impl Passage<'_> {
     /// The book with which an account begins.
     fn book_of(&self, alloc: Global, entry: &Entry) -> Result<SavedBook, NoMemory>
         requires { RulesFit entry.now.rules }
-        ensures { IfOk result (λ made. saved_book made ≡ begun_book self.now.numbers.now
+        ensures begun { IfOk result (λ made. saved_book made ≡ begun_book self.now.numbers.now
             self.now.old.now self.now.books.now entry.now) }
+        ensures fits { misfit entry.now.rules (begun_book self.now.numbers.now
+            self.now.old.now self.now.books.now entry.now) ≡ None }
     {
         match self.kept(alloc, entry.name.as_bytes())? {
             Some(kept) => carry(alloc, self.numbers, &entry.rules, &kept),
@@ -58,8 +62,10 @@ impl Passage<'_> {
 
     /// The books with which all accounts begin, in the order of their numbers.
     fn all_books(&self, alloc: Global) -> Result<Vec<SavedBook>, NoMemory>
-        ensures { IfOk result (λ kept. map saved_book kept.items ≡ begun_by_all self.now.numbers.now
+        ensures begun { IfOk result (λ kept. map saved_book kept.items ≡ begun_by_all self.now.numbers.now
             self.now.old.now self.now.books.now self.now.new.now) }
+        ensures fit { OnOk result (server_misfit self.now.new.now (begun_by_all self.now.numbers.now
+            self.now.old.now self.now.books.now self.now.new.now) ≡ None) }
     {
         let mut kept = Vec::with_capacity(alloc, self.new.accounts() as usize)?;
         for account in 0..self.new.accounts() {
@@ -79,8 +85,8 @@ impl Passage<'_> {
 /// a new book. Keep the boot number, so that accept numbers in Class attributes name the same
 /// reservations. Blank books that were made for the new accounts are used up.
 ///
-/// `NoMemory` comes if memory is refused, and `Misfit` for no books that a server has
-/// (`laws::carried_books_fit`). The former books stay as they are.
+/// `NoMemory` comes if memory is refused, and no other fault (`laws::carried_books_fit`). The former
+/// books stay as they are.
 pub fn admit(
     alloc: Global,
     old: &Config,
@@ -91,6 +97,7 @@ pub fn admit(
     ensures server { IfOk result (λ made. IsServerOf new.now made) }
     ensures admitted { IfOk result (λ made.
         AreAdmitted (table_of old.now) books.now (table_of new.now) made) }
+    ensures memory { IsOkUnless result ServerFault.NoMemory }
 {
     let numbers = next_numbers(alloc, old, new)?;
     let passage = Passage {

@@ -1,8 +1,9 @@
 //! The configuration of a table.
 
-ghost use Rattle.std.specs.Prelude.{◌≡◌, IfOk};
+ghost use Rattle.std.specs.Prelude.{◌≡◌, IfErr, IfOk};
 ghost use Rattle.rld_spelling.specs.TableSpelled.{table_octets, table_seen};
 ghost use Rattle.rld_spelling.specs.Tables.{table_of};
+ghost use Rattle.rld_books.specs.Configured.{IsWhyNotMade, IsWhyNotRead};
 
 use crate::fault::TableFault;
 use crate::table::is_table_of;
@@ -21,8 +22,9 @@ const NO_SECRET: &str = "-";
 ///
 /// `NoConfiguration` comes if no configuration has that table, and `NoMemory` if memory is refused.
 pub fn config_with(alloc: Global, table: &Table) -> Result<Config, TableFault>
-    ensures { IfOk result (λ config.
+    ensures made { IfOk result (λ config.
         table_octets (table_seen table.now) ≡ table_octets (table_of config)) }
+    ensures why { IfErr result IsWhyNotMade }
 {
     let config = made_of(alloc, table)?;
     let mut spelled = Vec::new(alloc);
@@ -42,7 +44,8 @@ pub fn config_with(alloc: Global, table: &Table) -> Result<Config, TableFault>
 ///
 /// The faults are those of `config_with`, and before them `Malformed` if the octets spell no table.
 pub fn config_of(alloc: Global, octets: &[u8]) -> Result<Config, TableFault>
-    ensures { IfOk result (λ config. octets.now ≡ table_octets (table_of config)) }
+    ensures made { IfOk result (λ config. octets.now ≡ table_octets (table_of config)) }
+    ensures why { IfErr result (IsWhyNotRead octets.now) }
 {
     match Table::read(alloc, octets) {
         Ok(table) => config_with(alloc, &table),
@@ -52,7 +55,9 @@ pub fn config_of(alloc: Global, octets: &[u8]) -> Result<Config, TableFault>
 }
 
 /// A configuration with the accounts and clients of a table, if there is one.
-fn made_of(alloc: Global, table: &Table) -> Result<Config, TableFault> {
+fn made_of(alloc: Global, table: &Table) -> Result<Config, TableFault>
+    ensures { IfErr result IsWhyNotMade }
+{
     let Some(first) = table.accounts.first() else {
         return Err(TableFault::NoConfiguration);
     };
@@ -84,7 +89,9 @@ fn settings_of(rules: &Rules) -> Settings {
 }
 
 /// Clients with these addresses.
-fn clients_of(alloc: Global, rows: &[TableClient]) -> Result<Vec<Client>, TableFault> {
+fn clients_of(alloc: Global, rows: &[TableClient]) -> Result<Vec<Client>, TableFault>
+    ensures { IfErr result IsWhyNotMade }
+{
     let mut clients = Vec::new(alloc);
     for row in rows {
         let client = Client {
@@ -100,7 +107,9 @@ fn clients_of(alloc: Global, rows: &[TableClient]) -> Result<Vec<Client>, TableF
 }
 
 /// Accounts with these names and rules.
-fn accounts_of(alloc: Global, rows: &[TableAccount]) -> Result<Vec<Entry>, TableFault> {
+fn accounts_of(alloc: Global, rows: &[TableAccount]) -> Result<Vec<Entry>, TableFault>
+    ensures { IfErr result IsWhyNotMade }
+{
     let mut accounts = Vec::new(alloc);
     for row in rows {
         accounts.push(account_of(alloc, row)?)?;
@@ -109,7 +118,9 @@ fn accounts_of(alloc: Global, rows: &[TableAccount]) -> Result<Vec<Entry>, Table
 }
 
 /// An account with a name and rules.
-fn account_of(alloc: Global, row: &TableAccount) -> Result<Entry, TableFault> {
+fn account_of(alloc: Global, row: &TableAccount) -> Result<Entry, TableFault>
+    ensures { IfErr result IsWhyNotMade }
+{
     let Ok(name) = str::from_utf8(row.name.as_slice()) else {
         return Err(TableFault::NoConfiguration);
     };

@@ -1,5 +1,7 @@
 ghost use Rattle.std.specs.Prelude.{◌≡◌};
+ghost use Rattle.rld_books.specs.Saved.{server_fault};
 ghost use Rattle.rld_books.specs.declared.fault.ServerFault.TheVariants.{NoMemory as no_memory};
+ghost use Rattle.rld_books.specs.declared.fault.TableFault.TheVariants.{NoMemory as refused};
 
 use rld_spelling::Fault;
 use rsl_book::RestoreFault;
@@ -38,6 +40,8 @@ impl<T: Drop> From<AllocFailed<T>> for ServerFault {
 }
 
 impl From<RestoreFault> for ServerFault {
+    ghost from_gives = { λ fault made. made ≡ server_fault fault };
+
     fn from(fault: RestoreFault) -> ServerFault {
         match fault {
             RestoreFault::NoMemory => ServerFault::NoMemory,
@@ -59,12 +63,16 @@ pub enum TableFault {
 }
 
 impl<T: Drop> From<AllocFailed<T>> for TableFault {
+    ghost from_gives = { λ _ fault. fault ≡ refused };
+
     fn from(_refused: AllocFailed<T>) -> TableFault {
         TableFault::NoMemory
     }
 }
 
 impl From<NoMemory> for TableFault {
+    ghost from_gives = { λ _ fault. fault ≡ refused };
+
     fn from(_refused: NoMemory) -> TableFault {
         TableFault::NoMemory
     }

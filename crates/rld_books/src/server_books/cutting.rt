@@ -1,6 +1,6 @@
 //! Cutting books to a moment.
 
-ghost use Rattle.std.specs.Prelude.{◌≡◌, ◌+◌, ◌<◌, ◌≤◌, ◌^◌, IfOk, map, sum_by};
+ghost use Rattle.std.specs.Prelude.{◌≡◌, ◌+◌, ◌<◌, ◌≤◌, ◌^◌, IfOk, IsOkUnless, map, sum_by};
 ghost use Rattle.rld_books.specs.Cut.{cut_ask, cut_book, cut_link, cut_server, cut_stop, earlier, late, late_in, late_in_server};
 ghost use Rattle.rld_books.specs.Saved.{IsServerOf};
 ghost use Rattle.rsl_session.specs.Saved.{saved_book, saved_link, saved_links};
@@ -178,6 +178,7 @@ impl ServerBooks {
             cut.books ≡ cut_server now self.now) }
         ensures moments { IfOk result (λ cut. late_in_server now self.now < 2 ^ 64 →
             cut.moments ≡ late_in_server now self.now) }
+        ensures memory { IsServerOf config.now self.now → IsOkUnless result ServerFault.NoMemory }
     {
         let mut kept = self.save(alloc)?;
         let moments = late_in_all(now, kept.as_slice());

@@ -3,7 +3,7 @@
 ghost use Rattle.std.specs.Prelude.{◌≡◌, IfNone, IfOk, IfSome, None, Some, ◌≤◌, ◌⊎◌, length};
 ghost use Rattle.std.specs.Option.{option_map};
 ghost use Rattle.rld_books.specs.Clocks.{IsGreatestClock, clock_in};
-ghost use Rattle.rld_books.specs.Saved.{book_in, links_in, rows_in};
+ghost use Rattle.rld_books.specs.Saved.{IsFit, book_in, links_in, rows_in};
 ghost use Rattle.rsl_book.specs.Restored.{saved};
 ghost use Rattle.rsl_session.specs.Saved.{saved_book, saved_links};
 
@@ -79,8 +79,9 @@ impl ServerBooks {
     /// The saved form of the book of an account; `None` if there is no such account. It fails only
     /// if memory is refused.
     pub fn save_book(&self, alloc: Global, account: u32) -> Result<Option<SavedBook>, NoMemory>
-        ensures { IfOk result (λ kept.
+        ensures saved { IfOk result (λ kept.
             option_map saved_book kept ≡ option_map saved (book_in self.now account)) }
+        ensures fits { IfSome (book_in self.now account) IsFit }
     {
         let Some(book) = self.book(account) else {
             return Ok(None);

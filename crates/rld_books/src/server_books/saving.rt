@@ -1,9 +1,10 @@
 //! Saving and restoring the books.
 
-ghost use Rattle.std.specs.Prelude.{◌≡◌, IfOk, map};
-ghost use Rattle.rld_books.specs.Saved.{IsServerOf, saved_server};
+ghost use Rattle.std.specs.Prelude.{◌≡◌, ◌≢◌, All, IfErr, IfOk, None, OnOk, Some, map};
+ghost use Rattle.std.specs.Option.{option_map};
+ghost use Rattle.rld_books.specs.Saved.{IsFit, IsServerOf, saved_server, server_fault, server_misfit};
 ghost use Rattle.rsl_accounts.specs.Limits.{RulesFit};
-ghost use Rattle.rsl_book.specs.Restored.{saved};
+ghost use Rattle.rsl_book.specs.Restored.{misfit, saved};
 ghost use Rattle.rsl_session.specs.Saved.{saved_book};
 
 use crate::blank_books::BlankBooks;
@@ -18,7 +19,8 @@ use std::alloc::Global;
 /// The saved form of books, one by one.
 #[tactic(auto, using(rsl_book::proofs::Callers::stands_steps))]
 fn saved_of(alloc: Global, books: &[Book]) -> Result<Vec<SavedBook>, NoMemory>
-    ensures { IfOk result (λ kept. map saved_book kept.items ≡ map saved books.now) }
+    ensures saved { IfOk result (λ kept. map saved_book kept.items ≡ map saved books.now) }
+    ensures fit { OnOk result (All IsFit books.now) }
 {
     let mut kept = Vec::with_capacity(alloc, books.len())?;
     for book in books {
@@ -36,8 +38,11 @@ pub(super) fn restored_book(
     kept: &SavedBook,
 ) -> Result<Book, ServerFault>
     requires { RulesFit rules }
-    ensures { IfOk result (λ book.
+    ensures book { IfOk result (λ book.
         book ≡ record { rules = rules; book = saved_book kept.now }) }
+    ensures fits { OnOk result (misfit rules (saved_book kept.now) ≡ None) }
+    ensures fault { IfErr result (λ fault. fault ≢ ServerFault.NoMemory →
+        option_map server_fault (misfit rules (saved_book kept.now)) ≡ Some fault) }
 {
     let blank = blanks.take(alloc, account, rules)?;
     Ok(Book::restore_in(alloc, blank, kept)?)
@@ -52,6 +57,9 @@ fn restored_books(
 ) -> Result<Vec<Book>, ServerFault>
     ensures server { IfOk result (λ books. IsServerOf config.now books.items) }
     ensures saved { IfOk result (λ books. saved_server books.items ≡ map saved_book kept.now) }
+    ensures fits { OnOk result (server_misfit config.now (map saved_book kept.now) ≡ None) }
+    ensures fault { IfErr result (λ fault. fault ≢ ServerFault.NoMemory →
+        server_misfit config.now (map saved_book kept.now) ≡ Some fault) }
 {
     let accounts = config.accounts();
     if kept.len() != accounts as usize {
@@ -69,7 +77,8 @@ impl ServerBooks {
     /// The saved form of each book, in the order of the accounts' numbers. It fails only if memory is
     /// refused.
     pub fn save(&self, alloc: Global) -> Result<Vec<SavedBook>, NoMemory>
-        ensures { IfOk result (λ kept. map saved_book kept.items ≡ saved_server self.now) }
+        ensures saved { IfOk result (λ kept. map saved_book kept.items ≡ saved_server self.now) }
+        ensures fit { OnOk result (All IsFit self.now) }
     {
         saved_of(alloc, &self.list)
     }
@@ -84,6 +93,9 @@ impl ServerBooks {
     ) -> Result<ServerBooks, ServerFault>
         ensures server { IfOk result (λ server. IsServerOf config.now server) }
         ensures saved { IfOk result (λ server. saved_server server ≡ map saved_book kept.now) }
+        ensures fits { OnOk result (server_misfit config.now (map saved_book kept.now) ≡ None) }
+        ensures fault { IfErr result (λ fault. fault ≢ ServerFault.NoMemory →
+            server_misfit config.now (map saved_book kept.now) ≡ Some fault) }
     {
         ServerBooks::restore_in(alloc, config, BlankBooks::none(alloc), kept)
     }
@@ -98,6 +110,9 @@ impl ServerBooks {
     ) -> Result<ServerBooks, ServerFault>
         ensures server { IfOk result (λ server. IsServerOf config.now server) }
         ensures saved { IfOk result (λ server. saved_server server ≡ map saved_book kept.now) }
+        ensures fits { OnOk result (server_misfit config.now (map saved_book kept.now) ≡ None) }
+        ensures fault { IfErr result (λ fault. fault ≢ ServerFault.NoMemory →
+            server_misfit config.now (map saved_book kept.now) ≡ Some fault) }
     {
         // Shows the prover that a configuration has 16,384 accounts at most.
         let _accounts = config.accounts();

@@ -14,7 +14,7 @@ returns c =
       header_fits = c.has_spelling.ensures;
       header_is = c.in_ok-extend_from_slice.ensures.items ∙ ap (λ (l : List ℕ). l ++ c.args.table.now) (c.in_ok-push.ensures ∙ ap (λ (l : List ℕ). l ++ header_octets c.args.header) c.new-first.ensures.items);
       snapshot_is = is_snapshot c.args.counts c.args.books.now c.deref.result.now c.in_ok-second.second.items
-          (ap (λ (l : List SavedBook). map saved_book l) c.deref.ensures.value ∙ c.in_ok-saved.ensures) c.in_ok-second.ensures.spelled c.in_ok-second.ensures.fit;
+          (ap (λ (l : List SavedBook). map saved_book l) c.deref.ensures.value ∙ c.in_ok-saved.ensures.saved) c.in_ok-second.ensures.spelled c.in_ok-second.ensures.fit;
       header_short = short_first;
       snapshot_short = short_second;
       size = front_size c.extend_from_slice.new.self.items c.in_ok-second.second.items c.in-Some.end c.in-Some-whole_with.whole short_first short_second
