@@ -21,7 +21,6 @@ use rld_look::Build;
 use rld_serve::{Access, Control, Plan, serve};
 use rld_start::{FolderGenerations, StartFault, Started, open_folder};
 use rld_web::Web;
-use rsl_accounts::Config;
 use rsl_event::Source;
 use rsl_port::socket_addr;
 use rsl_reply::Dictionary;
@@ -31,7 +30,7 @@ use std::fs::{File, Files};
 use std::hash::RandomState;
 use std::io::ErrorKind;
 use std::net::{Net, TcpListener, TcpStream};
-use std::sync::Wait;
+use std::sync::{Arc, Wait};
 use std::thread::Threads;
 use std::time::Clock;
 
@@ -81,6 +80,9 @@ where
     let paths = Paths::of(alloc, name, &server)?;
     let path = paths.accounts.as_str();
     let AccountFile { config, .. } = accounts_for(rt, alloc, names, name, &server, path)?;
+    let Ok(config) = Arc::new(alloc, config) else {
+        return Err(Fault::NoMemory);
+    };
     let state = paths.state.as_str();
     check_free(rt, alloc, state, server.new_history)?;
     let sockets = sockets_of(rt, alloc, server.listens.as_slice())?;
@@ -113,7 +115,7 @@ where
         name,
         paths: &paths,
         server: &server,
-        config: &config,
+        config: &*config,
     };
     let greeting = greeting_of(alloc, &build, &lines, room.as_str(), &started.found)?;
     let Started {
@@ -144,7 +146,6 @@ where
         files,
         alloc,
         plan,
-        config,
         &sockets,
         &control,
         web.as_ref(),

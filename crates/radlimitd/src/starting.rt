@@ -1,8 +1,7 @@
 //! A start on a disk that may have no room.
 
 ghost use Rattle.std.specs.Prelude.{◌≡◌, IfErr, IfOk};
-ghost use Rattle.rld_books.specs.Saved.{IsServerOf};
-ghost use Rattle.rld_store.specs.Generations.{octets_of};
+ghost use Rattle.std.specs.Arc.{arc_value};
 
 use rld_config::NewHistory;
 use rld_folder::RoomMade;
@@ -11,6 +10,7 @@ use rld_start::{StartFault, Started, make_room, start};
 use rsl_accounts::Config;
 use std::alloc::Global;
 use std::fs::{File, Files};
+use std::sync::Arc;
 
 /// The most often that the archive is asked for room.
 const MOST_ROOMS: u32 = 20_000;
@@ -30,15 +30,13 @@ pub(crate) struct Begun<'a> {
 pub(crate) fn start_in_room<'a, R: Files<File = File> + Alloc<A = Global> + Clone + Drop>(
     rt: &R,
     alloc: Global,
-    config: &Config,
+    config: &Arc<Config>,
     path: &str,
     new_history: NewHistory,
     now: u64,
     pacing: Pacing<'a>,
 ) -> Result<Begun<'a>, StartFault>
-    ensures key { IfOk result (λ begun. begun.started.key.generation ≡ begun.started.store.header.generation) }
-    ensures server { IfOk result (λ begun. IsServerOf config.now begun.started.store.books) }
-    ensures table { IfOk result (λ begun. begun.started.store.table.items ≡ octets_of config.now) }
+    ensures config { IfOk result (λ begun. arc_value begun.started.store.config ≡ arc_value config.now) }
 {
     let mut room = String::new(alloc);
     for _ in 0..MOST_ROOMS {

@@ -5,6 +5,7 @@ use rsl_reply::Dictionary;
 use std::alloc::Global;
 use std::fs::{File, Files};
 use std::io::Write;
+use std::sync::Arc;
 use std::time::Clock;
 
 /// Begins a generation in the state folder of a server that is not running, with its books cut to
@@ -26,7 +27,10 @@ where
     let paths = paths_of(rt, alloc, name)?;
     let done = {
         let accounts = account_file(rt, alloc, names, paths.accounts.as_str())?;
-        rld_start::rebase(rt, alloc, &accounts.config, paths.state.as_str(), now)?
+        let Ok(config) = Arc::new(alloc, accounts.config) else {
+            return Err(Fault::NoMemory);
+        };
+        rld_start::rebase(rt, alloc, config, paths.state.as_str(), now)?
     };
     let text = done.line(alloc)?;
     say(writer, text.as_bytes())

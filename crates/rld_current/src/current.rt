@@ -1,6 +1,5 @@
 ghost use Rattle.std.specs.Prelude.{◌≡◌};
 ghost use Rattle.std.specs.Arc.{arc_value};
-ghost use Rattle.rld_store.specs.Generations.{octets_of};
 
 use rld_edges::StatusService;
 use rld_log::Log;
@@ -27,11 +26,10 @@ pub struct Current {
 impl Current {
     /// What is present in a state, by another handle to its accounts.
     pub fn of<L: Log + Drop>(state: &ServerState<L>, config: Arc<Config>) -> Current
-        requires { arc_value config ≡ arc_value state.now.config }
+        requires { arc_value config ≡ arc_value state.now.recorder.config }
         ensures config { result.config ≡ config }
         ensures boot { result.boot ≡ state.now.recorder.header.boot }
         ensures table { result.table ≡ state.now.recorder.header.table }
-        ensures octets { state.now.recorder.table.items ≡ octets_of (arc_value result.config) }
     {
         Current {
             config,

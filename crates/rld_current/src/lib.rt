@@ -4,8 +4,8 @@
 //! - Each datagram of a turn is decided with the accounts, networks, boot number and table number
 //!   that are present, and what is recorded is of this table (`Shared::turn`: `turned`;
 //!   `specs/Turning.antt`).
-//! - These are of one state, whose log has the table of these accounts (`Current::of`: `table`,
-//!   `octets`).
+//! - These are of one state, whose store has these accounts and that table number (`Current::of`:
+//!   `config`, `boot`, `table`).
 //! - An ask is the Access-Request that its client would have sent, and takes such a turn (private:
 //!   `AskPort::new`: `requests`, `peer`). Its answer says how its own request ended, or none has an
 //!   answer (`AskPlace::take_turn`: `answered`).

@@ -5,7 +5,6 @@ use Rattle.rsl_accounts.specs.Configuration.{Configuration}
 use Rattle.rld_books.specs.Server.{ServerSeen}
 use Rattle.rsl_shard.specs.declared.moved.Move.{Move}
 use Rattle.rld_log.specs.declared.log.Ending.{Ending}
-use Rattle.rld_spelling.specs.declared.moves.Counts.{Counts}
 use Rattle.rld_store.specs.Generations.{HasHistory, IsUnbegun}
 use Rattle.rld_store.specs.Premises.{Only}
 use Rattle.rld_store.specs.Standing.{StandsFor}
@@ -22,13 +21,13 @@ batches_of (Roll header ∷ steps) = batches_of steps
 
 -- A store stands for a history that a life leaves after another history, and perhaps for a batch
 -- that was not answered: with that batch too it is a history that the life leaves.
-pub record StandsAfter (config : Configuration) (opening : ServerSeen) (counts : Counts)
-    (table : List ℕ) (tears : List ℕ → List ℕ → Type 0) (end : End) (seen : List ℕ)
+pub record StandsAfter (config : Configuration) (opening : ServerSeen)
+    (tears : List ℕ → List ℕ → Type 0) (end : End) (seen : List ℕ)
     (may_leave : Ending → List ℕ → Type 0) (whole : ℕ) (books : ServerSeen)
     (history : List Move) (batches : List (List Move)) (outcomes : List Outcome) : Type 0 where
   pub left : List Move
   pub unanswered : List Move
-  pub stands : StandsFor config opening counts table tears end seen may_leave whole books left unanswered
+  pub stands : StandsFor config opening tears end seen may_leave whole books left unanswered
   pub life : IsLife opening history batches outcomes left
   pub also : IsLife opening history batches outcomes (left ++ unanswered)
 

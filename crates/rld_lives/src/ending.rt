@@ -1,6 +1,7 @@
 //! How a life ends, and over which of two logs the next one goes.
 
 ghost use Rattle.std.specs.Prelude.{◌⊎◌, ◌≡◌, ℕ, List, ◌++◌, map, IfOk, IsTrue};
+ghost use Rattle.std.specs.Arc.{arc_value};
 ghost use Rattle.rld_books.specs.Server.{ServerSeen};
 ghost use Rattle.rld_lives.specs.Choosing.{IsChosenBy};
 ghost use Rattle.rld_lives.specs.Leaving.{HaveHistory, IsLeft, OfEach};
@@ -8,7 +9,6 @@ ghost use Rattle.rld_log.specs.Frames.{HasPayloads};
 ghost use Rattle.rld_log.specs.Log.{NoMore};
 ghost use Rattle.rld_store.specs.Premises.{Premise};
 ghost use Rattle.rld_store.specs.Standing.{StandsFor};
-ghost use Rattle.rsl_accounts.specs.Configuration.{Configuration};
 ghost use Rattle.rsl_shard.specs.declared.moved.Move.{Move as OneMove};
 
 use rld_log::{Crash, Ending, Log};
@@ -85,11 +85,11 @@ pub(crate) fn end_life<L: Crash + Drop>(
     // They have the history of the store, or that and its unanswered batch.
     ensures have { OfEach (λ log. IsTrue (L.Log.tells log)) result.older result.newest →
         Premise L.Log.tears ending →
-        (config : Configuration) (opening : ServerSeen) (history unanswered : List OneMove) →
-        StandsFor config opening store.counts store.table.items L.Log.tears store.end (L.Log.seen store.log)
+        (opening : ServerSeen) (history unanswered : List OneMove) →
+        StandsFor (arc_value store.config) opening L.Log.tears store.end (L.Log.seen store.log)
         (L.Log.may_leave store.log) store.whole store.books history unanswered →
-        HaveHistory config opening history L.Log.seen result.older result.newest
-        ⊎ HaveHistory config opening (history ++ unanswered) L.Log.seen result.older result.newest }
+        HaveHistory (arc_value store.config) opening history L.Log.seen result.older result.newest
+        ⊎ HaveHistory (arc_value store.config) opening (history ++ unanswered) L.Log.seen result.older result.newest }
 {
     match last {
         Some(header) => end_in_roll(alloc, store, header, ending),
@@ -113,11 +113,11 @@ fn end_in_roll<L: Crash + Drop>(
         OfEach (IsLeft L.Log.seen L.Log.may_leave ending) result.older result.newest }
     ensures have { OfEach (λ log. IsTrue (L.Log.tells log)) result.older result.newest →
         Premise L.Log.tears ending →
-        (config : Configuration) (opening : ServerSeen) (history unanswered : List OneMove) →
-        StandsFor config opening store.counts store.table.items L.Log.tears store.end (L.Log.seen store.log)
+        (opening : ServerSeen) (history unanswered : List OneMove) →
+        StandsFor (arc_value store.config) opening L.Log.tears store.end (L.Log.seen store.log)
         (L.Log.may_leave store.log) store.whole store.books history unanswered →
-        HaveHistory config opening history L.Log.seen result.older result.newest
-        ⊎ HaveHistory config opening (history ++ unanswered) L.Log.seen result.older result.newest }
+        HaveHistory (arc_value store.config) opening history L.Log.seen result.older result.newest
+        ⊎ HaveHistory (arc_value store.config) opening (history ++ unanswered) L.Log.seen result.older result.newest }
 {
     let mut store = store;
     let Ok(next) = store.log().next_log(alloc) else {

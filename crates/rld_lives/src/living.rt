@@ -2,6 +2,7 @@
 
 ghost use Rattle.std.specs.Prelude.{◌≡◌, ◌⊎◌, ℕ, false, List, [], ◌∷◌, ◌++◌, IfErr, IfOk, IfSome, OnErr, IsTrue, Some, None};
 ghost use Rattle.std.specs.Prelude.{All};
+ghost use Rattle.std.specs.Arc.{arc_value};
 ghost use Rattle.std.specs.Option.{option_map};
 ghost use Rattle.rld_lives.specs.Leaving.{HasLived, HaveHistory, HaveLived, IsLeft, OfEach, StandsAfter, batches_of};
 ghost use Rattle.rld_lives.specs.Life.{AreOutcomes, Outcome as OneOutcome, has_ended};
@@ -24,6 +25,7 @@ use rsl_accounts::Config;
 use rsl_shard::Move;
 use rsl_wire::NoMemory;
 use std::alloc::Global;
+use std::sync::Arc;
 
 /// The result of a batch: the decisions on its moves, or that it was not recorded.
 pub type Outcome = Result<Recorded, RecordFault>;
@@ -90,6 +92,7 @@ pub fn live<L: Crash + Drop>(
     ensures outcomes { IfOk result (λ outcomes.
         AreOutcomes store.old.books (batches_of steps.items) outcomes.items) }
     ensures err { OnErr result (store.new ≡ store.old) }
+    ensures config { store.new.config ≡ store.old.config }
 
     // It stops only where nothing more can be recorded.
     ensures over { store.old.is_over ≡ false → IfOk result (λ outcomes.
@@ -97,10 +100,10 @@ pub fn live<L: Crash + Drop>(
 
     // The store stands for what was recorded, and perhaps for another batch that was not, whole.
     ensures lived { IfOk result (λ outcomes. IsTrue (L.Log.tells store.new.log) →
-        (config : Configuration) (opening : ServerSeen) (history : List OneMove) →
-        StandsFor config opening store.old.counts store.old.table.items L.Log.tears store.old.end (L.Log.seen store.old.log)
+        (opening : ServerSeen) (history : List OneMove) →
+        StandsFor (arc_value store.old.config) opening L.Log.tears store.old.end (L.Log.seen store.old.log)
         (L.Log.may_leave store.old.log) store.old.whole store.old.books history [] →
-        StandsAfter config opening store.new.counts store.new.table.items L.Log.tears store.new.end (L.Log.seen store.new.log)
+        StandsAfter (arc_value store.old.config) opening L.Log.tears store.new.end (L.Log.seen store.new.log)
         (L.Log.may_leave store.new.log) store.new.whole store.new.books
         history (batches_of steps.items) outcomes.items) }
 {
@@ -127,16 +130,17 @@ pub fn live<L: Crash + Drop>(
 fn roll_on<L: Crash + Drop>(alloc: Global, store: &mut Store<L>, header: Header)
     ensures told { IsTrue (L.Log.tells store.new.log) → IsTrue (L.Log.tells store.old.log) }
     ensures books { store.new.books ≡ store.old.books }
+    ensures config { store.new.config ≡ store.old.config }
     ensures over { store.new.is_over ≡ store.old.is_over }
 
     // The store stands for the same history.
     ensures stands { IsTrue (L.Log.tells store.new.log) →
-        (config : Configuration) (opening : ServerSeen) (history unanswered : List OneMove) →
-        StandsFor config opening store.old.counts store.old.table.items L.Log.tears store.old.end (L.Log.seen store.old.log)
+        (opening : ServerSeen) (history unanswered : List OneMove) →
+        StandsFor (arc_value store.old.config) opening L.Log.tears store.old.end (L.Log.seen store.old.log)
         (L.Log.may_leave store.old.log) store.old.whole store.old.books history unanswered →
-        StandsFor config opening store.new.counts store.new.table.items L.Log.tears store.new.end (L.Log.seen store.new.log)
+        StandsFor (arc_value store.old.config) opening L.Log.tears store.new.end (L.Log.seen store.new.log)
         (L.Log.may_leave store.new.log) store.new.whole store.new.books history unanswered
-        ⊎ StandsFor config opening store.new.counts store.new.table.items L.Log.tears store.new.end (L.Log.seen store.new.log)
+        ⊎ StandsFor (arc_value store.old.config) opening L.Log.tears store.new.end (L.Log.seen store.new.log)
         (L.Log.may_leave store.new.log) store.new.whole store.new.books history [] }
 {
     let Ok(next) = store.log().next_log(alloc) else {
@@ -154,10 +158,10 @@ fn live_on<L: Crash + Drop>(alloc: Global, store: Store<L>, plan: Plan) -> Resul
         OfEach (IsLeft L.Log.seen L.Log.may_leave plan.ending) begun.logs.older begun.logs.newest) }
     ensures lived { IfOk result (λ begun. OfEach (λ log. IsTrue (L.Log.tells log)) begun.logs.older begun.logs.newest →
         Premise L.Log.tears plan.ending →
-        (config : Configuration) (opening : ServerSeen) (history : List OneMove) →
-        StandsFor config opening store.counts store.table.items L.Log.tears store.end (L.Log.seen store.log)
+        (opening : ServerSeen) (history : List OneMove) →
+        StandsFor (arc_value store.config) opening L.Log.tears store.end (L.Log.seen store.log)
         (L.Log.may_leave store.log) store.whole store.books history [] →
-        HasLived config opening history (batches_of plan.steps.items) (Some begun.told.items)
+        HasLived (arc_value store.config) opening history (batches_of plan.steps.items) (Some begun.told.items)
         L.Log.seen begun.logs.older begun.logs.newest) }
     ensures same { IfErr result (λ log. log ≡ store.log) }
 {
@@ -180,7 +184,7 @@ fn live_on<L: Crash + Drop>(alloc: Global, store: Store<L>, plan: Plan) -> Resul
 /// it does not begin, and the log is handed back.
 fn live_in<L: Crash + Drop>(
     alloc: Global,
-    config: &Config,
+    config: &Arc<Config>,
     log: L,
     plan: Plan,
 ) -> Result<Begun<L>, L>
@@ -192,20 +196,23 @@ fn live_in<L: Crash + Drop>(
     ensures lived { IfOk result (λ begun. OfEach (λ log. IsTrue (L.Log.tells log)) begun.logs.older begun.logs.newest →
         Premise L.Log.tears plan.ending →
         (opening : ServerSeen) (history : List OneMove) →
-        HasHistory config.now opening history (L.Log.seen log) →
-        HasLived config.now opening history (batches_of plan.steps.items) (Some begun.told.items)
+        HasHistory (arc_value config.now) opening history (L.Log.seen log) →
+        HasLived (arc_value config.now) opening history (batches_of plan.steps.items) (Some begun.told.items)
         L.Log.seen begun.logs.older begun.logs.newest) }
 
     // A crash of the log that was handed back leaves the same history.
     ensures kept { IfErr result (λ left. IsTrue (L.Log.tells left) → Only (L.Log.seen log) (L.Log.may_leave log) →
         (opening : ServerSeen) (history : List OneMove) →
-        HasHistory config.now opening history (L.Log.seen log) →
+        HasHistory (arc_value config.now) opening history (L.Log.seen log) →
         (ending : OneEnding) → Premise L.Log.tears ending →
         (file : List ℕ) → L.Log.may_leave left ending file →
-        HasHistory config.now opening history file) }
+        HasHistory (arc_value config.now) opening history file) }
 {
     let mut log = log;
     let Ok(frames) = read_frames(alloc, &mut log) else {
+        return Err(log);
+    };
+    let Ok(config) = Arc::try_clone(config) else {
         return Err(log);
     };
     match Store::open(alloc, config, log, &frames) {
@@ -221,7 +228,12 @@ fn live_in<L: Crash + Drop>(
 }
 
 /// A life over the one log that there is.
-fn live_alone<L: Crash + Drop>(alloc: Global, config: &Config, log: L, plan: Plan) -> OneLife<L>
+fn live_alone<L: Crash + Drop>(
+    alloc: Global,
+    config: &Arc<Config>,
+    log: L,
+    plan: Plan,
+) -> OneLife<L>
     ensures told { IfSome result.gone (λ gone. IsTrue (L.Log.tells gone)) →
         OfEach (λ log. IsTrue (L.Log.tells log)) result.logs.older result.logs.newest → IsTrue (L.Log.tells log) }
     ensures are_left { OfEach (λ log. IsTrue (L.Log.tells log)) result.logs.older result.logs.newest →
@@ -229,8 +241,8 @@ fn live_alone<L: Crash + Drop>(alloc: Global, config: &Config, log: L, plan: Pla
     ensures lived { OfEach (λ log. IsTrue (L.Log.tells log)) result.logs.older result.logs.newest →
         Only (L.Log.seen log) (L.Log.may_leave log) → Premise L.Log.tears plan.ending →
         (opening : ServerSeen) (history : List OneMove) →
-        HasHistory config.now opening history (L.Log.seen log) →
-        HasLived config.now opening history (batches_of plan.steps.items)
+        HasHistory (arc_value config.now) opening history (L.Log.seen log) →
+        HasLived (arc_value config.now) opening history (batches_of plan.steps.items)
         (option_map (λ (outcomes : OneVec OneOutcome). outcomes.items) result.told)
         L.Log.seen result.logs.older result.logs.newest }
 {
@@ -258,7 +270,7 @@ fn live_alone<L: Crash + Drop>(alloc: Global, config: &Config, log: L, plan: Pla
 /// A life over the one of two logs that counts. If it does not begin, both are left.
 fn live_beside<L: Crash + Drop>(
     alloc: Global,
-    config: &Config,
+    config: &Arc<Config>,
     older: L,
     newest: L,
     plan: Plan,
@@ -273,8 +285,8 @@ fn live_beside<L: Crash + Drop>(
         OfEach (λ log. Only (L.Log.seen log) (L.Log.may_leave log)) (Some older) newest →
         Premise L.Log.tears plan.ending →
         (opening : ServerSeen) (history : List OneMove) →
-        HaveHistory config.now opening history L.Log.seen (Some older) newest →
-        HasLived config.now opening history (batches_of plan.steps.items)
+        HaveHistory (arc_value config.now) opening history L.Log.seen (Some older) newest →
+        HasLived (arc_value config.now) opening history (batches_of plan.steps.items)
         (option_map (λ (outcomes : OneVec OneOutcome). outcomes.items) result.told)
         L.Log.seen result.logs.older result.logs.newest }
 {
@@ -334,7 +346,7 @@ fn not_begun<L: Crash + Drop>(older: L, newest: L, ending: Ending) -> OneLife<L>
 /// opened, or memory is refused, it does not begin.
 fn live_over<L: Crash + Drop>(
     alloc: Global,
-    config: &Config,
+    config: &Arc<Config>,
     logs: Logs<L>,
     plan: Plan,
 ) -> OneLife<L>
@@ -348,8 +360,8 @@ fn live_over<L: Crash + Drop>(
         OfEach (λ log. Only (L.Log.seen log) (L.Log.may_leave log)) logs.older logs.newest →
         Premise L.Log.tears plan.ending →
         (opening : ServerSeen) (history : List OneMove) →
-        HaveHistory config.now opening history L.Log.seen logs.older logs.newest →
-        HasLived config.now opening history (batches_of plan.steps.items)
+        HaveHistory (arc_value config.now) opening history L.Log.seen logs.older logs.newest →
+        HasLived (arc_value config.now) opening history (batches_of plan.steps.items)
         (option_map (λ (outcomes : OneVec OneOutcome). outcomes.items) result.told)
         L.Log.seen result.logs.older result.logs.newest }
 {
@@ -367,7 +379,7 @@ fn live_over<L: Crash + Drop>(
 /// passes for one.
 pub fn lives<L: Crash + Drop>(
     alloc: Global,
-    config: &Config,
+    config: &Arc<Config>,
     logs: Logs<L>,
     plans: Vec<Plan>,
 ) -> Result<Lived<L>, Logs<L>>
@@ -393,8 +405,8 @@ pub fn lives<L: Crash + Drop>(
         OfEach (λ log. Only (L.Log.seen log) (L.Log.may_leave log)) logs.older logs.newest →
         All (λ plan. Premise L.Log.tears plan.ending) plans.items →
         (opening : ServerSeen) (history : List OneMove) →
-        HaveHistory config.now opening history L.Log.seen logs.older logs.newest →
-        HaveLived config.now opening history (plans_of plans.items) (told_of lived.told.items)
+        HaveHistory (arc_value config.now) opening history L.Log.seen logs.older logs.newest →
+        HaveLived (arc_value config.now) opening history (plans_of plans.items) (told_of lived.told.items)
         L.Log.seen lived.logs.older lived.logs.newest) }
 {
     let Ok(mut told) = Vec::with_capacity(alloc, plans.len()) else {

@@ -59,7 +59,7 @@ impl Holdings {
         state: &ServerState<L>,
     ) -> Result<Holdings, NoMemory>
         ensures config { IfOk result (λ holdings.
-            arc_value holdings.config ≡ arc_value state.now.config) }
+            arc_value holdings.config ≡ arc_value state.now.recorder.config) }
         ensures header { IfOk result (λ holdings. holdings.header ≡ state.now.recorder.header) }
         ensures moves { IfOk result (λ holdings. holdings.moves ≡ state.now.moves) }
         ensures rows { IfOk result (λ holdings.

@@ -1,8 +1,8 @@
 //! The operator's server while it runs: receivers, and workers for ticks, the control socket,
 //! standard error, disconnects, the page and asks, each on its own thread, over one state under one
 //! lock. `rld_state` alone changes the state, since its fields are private there. It promises:
-//! - A server runs only with a store of the accounts that it is given, and with networks that fit
-//!   these (`serve`: `server`, `table`, `networks`, `fit`).
+//! - A server runs only with a store whose books are of its accounts, and with networks that fit
+//!   these (`serve`: `server`, `kept`, `networks`, `fit`).
 //! - A receiver ends with `Down` or `Unsynced` alone (private: `Server::take_turn`: `fault`), and a
 //!   generation begins, or is put off, exactly where it is due (private: `Server::roll_after`:
 //!   `due`, `not_due`).

@@ -1,10 +1,10 @@
 ghost use Rattle.std.specs.Prelude.{◌≡◌, Err, IfErr, IfOk, IfSome, IsTrue, false, length, map};
+ghost use Rattle.std.specs.Arc.{arc_value};
 ghost use Rattle.std.specs.List.{filter_map};
 ghost use Rattle.rld_books.specs.Saved.{IsServerOf};
 ghost use Rattle.rld_edges.specs.Fault.{fault_in, gravest};
 ghost use Rattle.rld_edges.specs.Jobs.{port_of};
 ghost use Rattle.rld_edges.specs.declared.fault.RunFault.TheVariants.{Unsynced};
-ghost use Rattle.rld_store.specs.Generations.{octets_of};
 ghost use Rattle.rld_counts.specs.Fates.{gate_of};
 ghost use Rattle.rld_serve.specs.Fitting.{AreFit};
 
@@ -27,7 +27,6 @@ use rld_networks::Network;
 use rld_start::Generations;
 use rld_state::{ServerState, Told, Trouble, news_of_clock, seconds_behind};
 use rld_store::Store;
-use rsl_accounts::Config;
 use rsl_event::Port;
 use rsl_port::{Clock, SystemClock};
 use rsl_reply::Dictionary;
@@ -124,7 +123,6 @@ pub fn serve<'a, P, G, A, R>(
     files: &'a HostRuntime,
     alloc: Global,
     plan: Plan<'a>,
-    config: Config,
     sockets: &'a Sockets,
     control: &Control,
     pages: Option<&P>,
@@ -144,11 +142,10 @@ where
         + Threads
         + Wait
         + Sync,
-    requires server { IsServerOf config store.books }
-    requires table { store.table.items ≡ octets_of config }
+    requires server { IsServerOf (arc_value store.config) store.books }
     requires kept { key.generation ≡ store.header.generation }
     requires networks { A.networks accounts.now ≡ plan.networks.now }
-    requires fit { AreFit plan.networks.now config }
+    requires fit { AreFit plan.networks.now (arc_value store.config) }
 {
     let mut jobs = sockets.jobs(alloc, control)?;
     if pages.is_some() {
@@ -157,6 +154,7 @@ where
     if asks.is_some() {
         jobs.push(Job::Ask)?;
     }
+    let config = Arc::try_clone(store.config())?;
     let rooms = Rooms::new(alloc, plan.start, config.clients(), jobs.as_slice(), asks)?;
     let Rooms {
         board,
@@ -166,10 +164,8 @@ where
         history,
         orders,
     } = rooms;
-    let config = Arc::new(alloc, config)?;
-    let held = Arc::try_clone(&config)?;
-    let state = ServerState::new(store, config, key);
-    let current = Current::of(&state, held);
+    let state = ServerState::new(store, key);
+    let current = Current::of(&state, config);
     let server = Server {
         rt,
         files,

@@ -2,9 +2,10 @@
 
 ghost use Rattle.std.specs.Prelude.{◌≡◌, ◌+◌, ◌↔◌, map, IfErr, IfOk, IfSome, IsTrue, Some};
 ghost use Rattle.rld_books.specs.Admitted.{AreAdmitted};
-ghost use Rattle.rld_books.specs.Saved.{IsServerOf};
 ghost use Rattle.rld_spelling.specs.Tables.{account_row, client_row, table_of};
 ghost use Rattle.rld_start.specs.Behind.{IsBehind};
+ghost use Rattle.std.specs.Arc.{arc_value};
+ghost use Rattle.rld_books.specs.Saved.{IsServerOf};
 ghost use Rattle.rld_start.specs.Counted.{AreSessionsOf};
 ghost use Rattle.rld_start.specs.Faults.{IsWhyNotAdmitted};
 ghost use Rattle.rld_start.specs.Going.{Admits};
@@ -30,6 +31,7 @@ use rld_store::Opened;
 use rsl_accounts::{Client, Config, Entry};
 use std::alloc::Global;
 use std::fs::{File, Files};
+use std::sync::Arc;
 
 /// Goes on from the generation of this number, whose table is that of another configuration, with the
 /// books admitted from it. The log of the new generation is synced to the disk, whatever the pacing. A
@@ -37,8 +39,8 @@ use std::fs::{File, Files};
 pub(crate) fn change<'a, R: Files<File = File>>(
     files: &R,
     alloc: Global,
-    old: &Config,
-    config: &Config,
+    old: Config,
+    config: Arc<Config>,
     folder: Folder,
     names: &[FileName],
     begun: Begun,
@@ -46,19 +48,20 @@ pub(crate) fn change<'a, R: Files<File = File>>(
     now: u64,
     pacing: Pacing<'a>,
 ) -> Result<Started<'a>, StartFault>
-    requires { octets_of old.now ≡ octets_of config.now → ⊥ }
-    ensures key { IfOk result (λ started. started.key.generation ≡ started.store.header.generation) }
-    ensures server { IfOk result (λ started. IsServerOf config.now started.store.books) }
-    ensures table { IfOk result (λ started. started.store.table.items ≡ octets_of config.now) }
+    requires { octets_of old ≡ octets_of (arc_value config) → ⊥ }
+    ensures config { IfOk result (λ started. started.store.config ≡ config) }
     ensures number { IfOk result (λ started. IsNewNumber names.now started.store.header) }
     ensures from { IfOk result (λ started. started.found.from ≡ Some (Numbered number)) }
     ensures admits { IfOk result (λ started.
-        Admits config.now begun started.store.header started.store.books) }
-    ensures sessions { IfOk result (λ started. AreSessionsOf started.store.books started.found.sessions) }
+        Admits (arc_value config) begun started.store.header started.store.books) }
     ensures behind { IfOk result (λ started.
-        IsBehind config.now started.store.books now started.found.behind) }
+        IsBehind (arc_value started.store.config) started.store.books now started.found.behind) }
 {
-    let former = reopen(alloc, old, begun, number, pacing)?;
+    let Ok(old) = Arc::new(alloc, old) else {
+        return Err(StartFault::NoMemory);
+    };
+    let held = Arc::try_clone(&old)?;
+    let former = reopen(alloc, held, begun, number, pacing)?;
     let Former { opened, .. } = former;
     let Opened {
         store,
@@ -75,7 +78,9 @@ pub(crate) fn change<'a, R: Files<File = File>>(
         books: store.into_books(),
         torn,
     };
-    change_from(files, alloc, old, config, folder, end, header, now, pacing)
+    change_from(
+        files, alloc, &*old, config, folder, end, header, now, pacing,
+    )
 }
 
 /// What the log of a generation ends with.
@@ -95,7 +100,7 @@ pub(crate) fn change_from<'a, R: Files<File = File>>(
     files: &R,
     alloc: Global,
     old: &Config,
-    config: &Config,
+    config: Arc<Config>,
     folder: Folder,
     end: LogEnd,
     header: Header,
@@ -103,17 +108,14 @@ pub(crate) fn change_from<'a, R: Files<File = File>>(
     pacing: Pacing<'a>,
 ) -> Result<Started<'a>, StartFault>
     ensures header { IfOk result (λ started. started.store.header ≡ header) }
-    ensures key { IfOk result (λ started. started.key.generation ≡ started.store.header.generation) }
-    ensures server { IfOk result (λ started. IsServerOf config.now started.store.books) }
-    ensures table { IfOk result (λ started. started.store.table.items ≡ octets_of config.now) }
+    ensures config { IfOk result (λ started. started.store.config ≡ config) }
     ensures admitted { IfOk result (λ started.
-        AreAdmitted (table_of old.now) end.books (table_of config.now) started.store.books) }
+        AreAdmitted (table_of old.now) end.books (table_of (arc_value config)) started.store.books) }
     ensures torn { IfOk result (λ started. started.found.torn ≡ end.torn) }
     ensures held { IfOk result (λ started. IfSome started.found.held (AreSessionsOf end.books)) }
     ensures behind { IfOk result (λ started.
-        IsBehind config.now started.store.books now started.found.behind) }
+        IsBehind (arc_value started.store.config) started.store.books now started.found.behind) }
     ensures from { IfOk result (λ started. started.found.from ≡ Some end.generation) }
-    ensures sessions { IfOk result (λ started. AreSessionsOf started.store.books started.found.sessions) }
 {
     let LogEnd {
         generation,
@@ -122,10 +124,10 @@ pub(crate) fn change_from<'a, R: Files<File = File>>(
     } = end;
     let held = sessions_in(books.rows(alloc)?.as_slice());
     let blanks = BlankBooks::none(alloc);
-    let books = admitted_books(alloc, old, generation, &books, config, blanks)?;
+    let books = admitted_books(alloc, old, generation, &books, &*config, blanks)?;
     let begun = begin_generation(files, alloc, config, &folder, header, books, pacing)?;
     let synced = sync_begun(files, alloc, &folder, &header)?;
-    let found = found_changed(alloc, config, &begun, &synced, generation, held, torn, now)?;
+    let found = found_changed(alloc, &begun, &synced, generation, held, torn, now)?;
     let NewGeneration { store, key } = begun;
     Ok(Started {
         folder,
@@ -139,7 +141,6 @@ pub(crate) fn change_from<'a, R: Files<File = File>>(
 /// has to be on the disk.
 fn found_changed(
     alloc: Global,
-    config: &Config,
     begun: &NewGeneration<'_>,
     synced: &Synced,
     from: Generation,
@@ -149,7 +150,7 @@ fn found_changed(
 ) -> Result<Found, StartFault>
     requires { synced.now.generation ≡ begun.now.store.header.generation }
     ensures torn { IfOk result (λ found. found.torn ≡ torn) }
-    ensures behind { IfOk result (λ found. IsBehind config.now begun.now.store.books now found.behind) }
+    ensures behind { IfOk result (λ found. IsBehind (arc_value begun.now.store.config) begun.now.store.books now found.behind) }
     ensures from { IfOk result (λ found. found.from ≡ Some from) }
     ensures held { IfOk result (λ found. found.held ≡ Some held) }
     ensures sessions { IfOk result (λ found. AreSessionsOf begun.now.store.books found.sessions) }
@@ -160,7 +161,7 @@ fn found_changed(
         moves: begun.store.header().lines,
         sessions: sessions_in(begun.store.rows(alloc)?.as_slice()),
         torn,
-        behind: behind_books(config, begun.store.books(), now),
+        behind: behind_books(&**begun.store.config(), begun.store.books(), now),
         held: Some(held),
     })
 }

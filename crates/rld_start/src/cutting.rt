@@ -1,6 +1,7 @@
 //! Beginning a generation with the books of the one before, cut to a moment.
 
 ghost use Rattle.std.specs.Prelude.{◌≡◌, ◌+◌, ◌<◌, ◌^◌, IfOk, string_bytes};
+ghost use Rattle.std.specs.Arc.{arc_value};
 ghost use Rattle.rld_books.specs.Cut.{cut_server, late_in_server};
 ghost use Rattle.rld_books.specs.Saved.{IsServerOf};
 ghost use Rattle.rld_start.specs.NextHeaders.{header_after};
@@ -19,6 +20,7 @@ use rld_log::{Pace, Pacing};
 use rsl_accounts::Config;
 use std::alloc::{AllocError, Global};
 use std::fs::{File, Files};
+use std::sync::Arc;
 
 /// The result of a rebase. Only a generation that was begun with cut books gives one.
 #[derive(Clone, Copy)]
@@ -101,7 +103,6 @@ impl Cut<'_> {
 pub(crate) fn cut_from<'a, R: Files<File = File>>(
     files: &R,
     alloc: Global,
-    config: &Config,
     folder: &Folder,
     names: &[FileName],
     former: &Former<'_>,
@@ -112,8 +113,8 @@ pub(crate) fn cut_from<'a, R: Files<File = File>>(
     ensures synced { IfOk result (λ cut.
         cut.synced.generation ≡ cut.begun.store.header.generation) }
     ensures from { IfOk result (λ cut. cut.from ≡ former.now.number) }
-    ensures server { IfOk result (λ cut. IsServerOf config.now cut.begun.store.books) }
-    ensures books { IfOk result (λ cut. IsServerOf config.now former.now.opened.store.books →
+    ensures books { IfOk result (λ cut.
+        IsServerOf (arc_value former.now.opened.store.config) former.now.opened.store.books →
         cut.begun.store.books ≡ cut_server now former.now.opened.store.books) }
     ensures moments { IfOk result (λ cut. late_in_server now former.now.opened.store.books < 2 ^ 64 →
         cut.moments ≡ late_in_server now former.now.opened.store.books) }
@@ -125,9 +126,10 @@ pub(crate) fn cut_from<'a, R: Files<File = File>>(
     let Some(header) = next_header(&former.opened.header, next, former.opened.moves as u64) else {
         return Err(StartFault::NoNumber);
     };
-    let books = former.opened.store.books();
+    let store = &former.opened.store;
+    let config = Arc::try_clone(store.config())?;
     let generation = Generation::Numbered(former.number);
-    let CutBooks { books, moments } = cut_books(alloc, config, generation, books, now)?;
+    let CutBooks { books, moments } = cut_books(alloc, &*config, generation, store.books(), now)?;
     let begun = begin_generation(files, alloc, config, folder, header, books, pacing)?;
     let synced = sync_begun(files, alloc, folder, &header)?;
     Ok(Cut {

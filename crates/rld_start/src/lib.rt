@@ -1,8 +1,8 @@
 //! The start of a server from its folder. `specs/Founds.antt` says which generation counts,
 //! `specs/Going.antt` what goes on, and `specs/Beginnings.antt` when a new history begins. It
 //! promises:
-//! - A start has books and a table of the account file that it was given (`start`: `server`,
-//!   `table`), under a number that no log has (`next_generation`).
+//! - A start has the accounts that it was given (`start`: `config`) with books of theirs, and the key
+//!   of its own log (`Started`), under a number that no log has (`next_generation`).
 //! - It goes on from the generation that counts: every newer log was read and passed over (private:
 //!   `newest_begun`; `look_in`: `seen`). With other accounts it has what is admitted of those books
 //!   (`change_from`: `admitted`). If none counts it has new books (private: `take_up`: `new`).

@@ -1,7 +1,6 @@
 //! Beginning a generation with other books than those of the one before.
 
 ghost use Rattle.std.specs.Prelude.{◌≡◌, IfOk};
-ghost use Rattle.rld_store.specs.Generations.{octets_of};
 
 use crate::fault::{StartFault, file_fault};
 use crate::files::create_log;
@@ -14,6 +13,7 @@ use rld_store::Store;
 use rsl_accounts::Config;
 use std::alloc::Global;
 use std::fs::{File, Files};
+use std::sync::Arc;
 
 /// A generation that was begun.
 #[derive(Drop)]
@@ -30,7 +30,7 @@ pub(crate) struct NewGeneration<'a> {
 pub(crate) fn begin_generation<'a, R: Files<File = File>>(
     files: &R,
     alloc: Global,
-    config: &Config,
+    config: Arc<Config>,
     folder: &Folder,
     header: Header,
     books: ServerBooks,
@@ -38,7 +38,7 @@ pub(crate) fn begin_generation<'a, R: Files<File = File>>(
 ) -> Result<NewGeneration<'a>, StartFault>
     ensures key { IfOk result (λ begun. begun.key.generation ≡ header.generation) }
     ensures header { IfOk result (λ begun. begun.store.header ≡ header) }
-    ensures table { IfOk result (λ begun. begun.store.table.items ≡ octets_of config.now) }
+    ensures config { IfOk result (λ begun. begun.store.config ≡ config) }
     ensures books { IfOk result (λ begun. begun.store.books ≡ books) }
 {
     let NewLog { key, log } = create_log(files, alloc, folder, header.generation)?;

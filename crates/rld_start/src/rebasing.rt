@@ -1,6 +1,7 @@
 //! A generation after one whose clock was ahead, with its books cut to the present.
 
 ghost use Rattle.std.specs.Prelude.{◌≡◌, ◌+◌, All, IfOk, IfSome, OnOk, Some};
+ghost use Rattle.std.specs.Arc.{arc_value};
 ghost use Rattle.rld_folder.specs.declared.name.Generation.TheVariants.{Numbered};
 ghost use Rattle.rld_start.specs.Founds.{IsNewestBegun, generation_in};
 ghost use Rattle.rld_start.specs.Gaps.{IsEarlier};
@@ -18,6 +19,7 @@ use rld_log::{HEAD_LEN, Pace, Pacing, Ticks};
 use rsl_accounts::Config;
 use std::alloc::Global;
 use std::fs::{File, Files};
+use std::sync::Arc;
 
 /// Begins a generation in the folder of a server that is not running: after the newest one that was
 /// begun, with its table, and with its books cut to `now`, in seconds since 1970
@@ -32,7 +34,7 @@ use std::fs::{File, Files};
 pub fn rebase<R: Files<File = File> + Alloc<A = Global> + Clone + Drop>(
     rt: &R,
     alloc: Global,
-    config: &Config,
+    config: Arc<Config>,
     path: &str,
     now: u64,
 ) -> Result<Rebased, StartFault> {
@@ -65,7 +67,7 @@ pub fn rebase<R: Files<File = File> + Alloc<A = Global> + Clone + Drop>(
 fn rebase_newest<'a, R: Files<File = File>>(
     files: &R,
     alloc: Global,
-    config: &Config,
+    config: Arc<Config>,
     folder: &Folder,
     names: &[FileName],
     archived: &[FileName],
@@ -82,7 +84,7 @@ fn rebase_newest<'a, R: Files<File = File>>(
     ensures number { IfOk result (λ cut. IsNewNumber names.now cut.begun.store.header) }
     ensures key { IfOk result (λ cut. cut.begun.key.generation ≡ cut.begun.store.header.generation) }
     ensures cut { IfOk result (λ cut. IfSome newest.begun (λ begun.
-        HasCut config.now begun now cut.begun.store.header cut.begun.store.books cut.moments)) }
+        HasCut (arc_value config) begun now cut.begun.store.header cut.begun.store.books cut.moments)) }
 {
     check_archive(archived, newest.generation())?;
     match newest.into_begun() {
@@ -104,7 +106,7 @@ fn former_refused(generation: Generation) -> StartFault {
 fn rebase_begun<'a, R: Files<File = File>>(
     files: &R,
     alloc: Global,
-    config: &Config,
+    config: Arc<Config>,
     folder: &Folder,
     names: &[FileName],
     begun: Begun,
@@ -118,7 +120,7 @@ fn rebase_begun<'a, R: Files<File = File>>(
     ensures number { IfOk result (λ cut. IsNewNumber names.now cut.begun.store.header) }
     ensures key { IfOk result (λ cut. cut.begun.key.generation ≡ cut.begun.store.header.generation) }
     ensures cut { IfOk result (λ cut.
-        HasCut config.now begun now cut.begun.store.header cut.begun.store.books cut.moments) }
+        HasCut (arc_value config) begun now cut.begun.store.header cut.begun.store.books cut.moments) }
 {
     match begun.generation() {
         Generation::Former { era, number } => {
@@ -134,7 +136,7 @@ fn rebase_begun<'a, R: Files<File = File>>(
 fn rebase_numbered<'a, R: Files<File = File>>(
     files: &R,
     alloc: Global,
-    config: &Config,
+    config: Arc<Config>,
     folder: &Folder,
     names: &[FileName],
     begun: Begun,
@@ -149,11 +151,11 @@ fn rebase_numbered<'a, R: Files<File = File>>(
     ensures number { IfOk result (λ cut. IsNewNumber names.now cut.begun.store.header) }
     ensures key { IfOk result (λ cut. cut.begun.key.generation ≡ cut.begun.store.header.generation) }
     ensures cut { IfOk result (λ cut.
-        HasCut config.now begun now cut.begun.store.header cut.begun.store.books cut.moments) }
+        HasCut (arc_value config) begun now cut.begun.store.header cut.begun.store.books cut.moments) }
 {
-    if other_config(alloc, config, &begun, number)?.is_some() {
+    if other_config(alloc, &*config, &begun, number)?.is_some() {
         return Err(StartFault::OtherAccounts);
     }
     let former = reopen(alloc, config, begun, number, pacing)?;
-    cut_from(files, alloc, config, folder, names, &former, now, pacing)
+    cut_from(files, alloc, folder, names, &former, now, pacing)
 }

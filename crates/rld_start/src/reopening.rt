@@ -1,6 +1,7 @@
 //! Opening a generation that was begun again.
 
 ghost use Rattle.std.specs.Prelude.{◌≡◌, ℕ, List, [], IfOk, IfSome, IsTrue};
+ghost use Rattle.std.specs.Arc.{arc_value};
 ghost use Rattle.rld_books.specs.Saved.{IsServerOf};
 ghost use Rattle.rld_books.specs.Server.{ServerSeen};
 ghost use Rattle.rld_store.specs.Generations.{HasHistory, octets_of};
@@ -19,6 +20,7 @@ use rld_log::{FileLog, Frames, Log, PacedLog, Pacing};
 use rld_store::{Opened, Part, Parts, Store, StoreFault};
 use rsl_accounts::Config;
 use std::alloc::Global;
+use std::sync::Arc;
 
 /// A generation that was opened to go on from.
 #[derive(Drop)]
@@ -87,16 +89,16 @@ fn config_in(alloc: Global, generation: Generation, table: Part<'_>) -> Result<C
 /// Opens the log of the begun generation of this number, with a configuration that has its table.
 pub(crate) fn reopen<'a>(
     alloc: Global,
-    config: &Config,
+    config: Arc<Config>,
     begun: Begun,
     number: u64,
     pacing: Pacing<'a>,
 ) -> Result<Former<'a>, StartFault>
     ensures number { IfOk result (λ former. former.number ≡ number) }
     ensures named { IfOk result (λ former. former.opened.header.generation ≡ number) }
-    ensures server { IfOk result (λ former. IsServerOf config.now former.opened.store.books) }
-    ensures table { IfOk result (λ former. former.opened.store.table.items ≡ octets_of config.now) }
-    ensures there { IfOk result (λ former. IsThereIn config.now begun.frames.octets.items
+    ensures config { IfOk result (λ former. former.opened.store.config ≡ config) }
+    ensures server { IfOk result (λ former. IsServerOf (arc_value config) former.opened.store.books) }
+    ensures there { IfOk result (λ former. IsThereIn (arc_value config) begun.frames.octets.items
         former.opened.header former.opened.store.books former.opened.moves) }
 {
     let generation = begun.generation();
@@ -112,20 +114,20 @@ pub(crate) fn reopen<'a>(
 /// Opens the log of a generation with these frames as a store.
 fn open_store<L: Log + Drop>(
     alloc: Global,
-    config: &Config,
+    config: Arc<Config>,
     generation: Generation,
     log: L,
     frames: &Frames,
 ) -> Result<Opened<L>, StartFault>
     requires { IsTrue (L.tells log) → frames.now.octets.items ≡ L.seen log }
-    ensures server { IfOk result (λ opened. IsServerOf config.now opened.store.books) }
-    ensures table { IfOk result (λ opened. opened.store.table.items ≡ octets_of config.now) }
-    ensures there { IfOk result (λ opened. IsThereIn config.now frames.now.octets.items
+    ensures config { IfOk result (λ opened. opened.store.config ≡ config) }
+    ensures server { IfOk result (λ opened. IsServerOf (arc_value config) opened.store.books) }
+    ensures there { IfOk result (λ opened. IsThereIn (arc_value config) frames.now.octets.items
         opened.header opened.store.books opened.moves) }
     ensures stands { IfOk result (λ opened. IsTrue (L.tells opened.store.log) →
         (opening : ServerSeen) (history : List OneMove) →
-        HasHistory config.now opening history (L.seen log) →
-        StandsFor config.now opening opened.store.counts opened.store.table.items L.tears opened.store.end
+        HasHistory (arc_value config) opening history (L.seen log) →
+        StandsFor (arc_value config) opening L.tears opened.store.end
         (L.seen opened.store.log) (L.may_leave opened.store.log)
         opened.store.whole opened.store.books history []) }
 {

@@ -1,6 +1,7 @@
 //! Starting a server from its folder.
 
 ghost use Rattle.std.specs.Prelude.{◌≡◌, ◌+◌, All, Contains, IfNone, IfOk, IfSome, IsTrue, None, OnOk, Some};
+ghost use Rattle.std.specs.Arc.{arc_value};
 ghost use Rattle.rld_books.specs.Saved.{IsServerOf};
 ghost use Rattle.rld_books.specs.Server.{new_server};
 ghost use Rattle.rld_folder.specs.Newest.{Precedes};
@@ -13,7 +14,6 @@ ghost use Rattle.rld_start.specs.Gaps.{IsEarlier};
 ghost use Rattle.rld_start.specs.Going.{Follows, GoesOn};
 ghost use Rattle.rld_start.specs.NextHeaders.{IsNewNumber, first_header, header_after};
 ghost use Rattle.rld_start.specs.Numbers.{greatest_by, number_of};
-ghost use Rattle.rld_store.specs.Generations.{octets_of};
 
 use crate::beginning::{check_history, open_folder};
 use crate::behind::behind_books;
@@ -38,8 +38,10 @@ use rld_store::{Opened, Store};
 use rsl_accounts::Config;
 use std::alloc::Global;
 use std::fs::{File, Files};
+use std::sync::Arc;
 
-/// A server that is ready to run.
+/// A server that is ready to run. Its books are of its accounts, its key is that of its log, and the
+/// sessions that were found are those of its books.
 #[derive(Drop)]
 pub struct Started<'a> {
     /// The folder, which is locked until the value is dropped.
@@ -50,6 +52,9 @@ pub struct Started<'a> {
     pub key: LogKey,
     /// What was found in the folder.
     pub found: Found,
+    ghost server: { IsServerOf (arc_value store.config) store.books },
+    ghost kept: { key.generation ≡ store.header.generation },
+    ghost counted: { AreSessionsOf store.books found.sessions },
 }
 
 /// Starts a server from its folder: opens and locks it, and goes on from the newest generation that
@@ -72,20 +77,18 @@ pub struct Started<'a> {
 pub fn start<'a, R: Files<File = File> + Alloc<A = Global> + Clone + Drop>(
     rt: &R,
     alloc: Global,
-    config: &Config,
+    config: &Arc<Config>,
     path: &str,
     new_history: NewHistory,
     now: u64,
     pacing: Pacing<'a>,
 ) -> Result<Started<'a>, StartFault>
-    ensures key { IfOk result (λ started. started.key.generation ≡ started.store.header.generation) }
-    ensures server { IfOk result (λ started. IsServerOf config.now started.store.books) }
-    ensures table { IfOk result (λ started. started.store.table.items ≡ octets_of config.now) }
-    ensures sessions { IfOk result (λ started. AreSessionsOf started.store.books started.found.sessions) }
+    ensures config { IfOk result (λ started. arc_value started.store.config ≡ arc_value config.now) }
     ensures behind { IfOk result (λ started.
-        IsBehind config.now started.store.books now started.found.behind) }
+        IsBehind (arc_value started.store.config) started.store.books now started.found.behind) }
     ensures history { IfOk result (λ started. HasHistory new_history started.found) }
 {
+    let config = Arc::try_clone(config)?;
     let folder = open_folder(rt, alloc, path, new_history)?;
     let files = folder.files(rt)?;
     let files = files.as_slice();
@@ -111,7 +114,7 @@ pub fn start<'a, R: Files<File = File> + Alloc<A = Global> + Clone + Drop>(
 fn take_up<'a, R: Files<File = File>>(
     files: &R,
     alloc: Global,
-    config: &Config,
+    config: Arc<Config>,
     folder: Folder,
     names: &[FileName],
     archived: &[FileName],
@@ -121,20 +124,17 @@ fn take_up<'a, R: Files<File = File>>(
     pacing: Pacing<'a>,
 ) -> Result<Started<'a>, StartFault>
     requires { IsNewestBegun names.now newest }
-    ensures key { IfOk result (λ started. started.key.generation ≡ started.store.header.generation) }
-    ensures server { IfOk result (λ started. IsServerOf config.now started.store.books) }
-    ensures table { IfOk result (λ started. started.store.table.items ≡ octets_of config.now) }
+    ensures config { IfOk result (λ started. started.store.config ≡ config) }
     ensures earlier { OnOk result (All (IsEarlier (generation_in newest.begun)) archived.now) }
     ensures may { OnOk result (IsTrue (may_start new_history (generation_in newest.begun))) }
     ensures from { IfOk result (λ started. started.found.from ≡ generation_in newest.begun) }
     ensures number { IfOk result (λ started. IsNewNumber names.now started.store.header) }
-    ensures sessions { IfOk result (λ started. AreSessionsOf started.store.books started.found.sessions) }
     ensures behind { IfOk result (λ started.
-        IsBehind config.now started.store.books now started.found.behind) }
+        IsBehind (arc_value started.store.config) started.store.books now started.found.behind) }
     ensures history { IfOk result (λ started. HasHistory new_history started.found) }
     ensures follows { IfOk result (λ started. IfSome newest.begun (λ begun.
-        Follows config.now begun started.store.header started.store.books)) }
-    ensures new { IfOk result (λ started. IfNone newest.begun (started.store.books ≡ new_server config.now)) }
+        Follows (arc_value config) begun started.store.header started.store.books)) }
+    ensures new { IfOk result (λ started. IfNone newest.begun (started.store.books ≡ new_server (arc_value config))) }
     ensures first { IfOk result (λ started. IfNone newest.begun
         (started.store.header ≡ first_header started.store.header.generation now)) }
     ensures after { IfOk result (λ started. IfSome newest.begun (λ begun.
@@ -153,27 +153,24 @@ fn take_up<'a, R: Files<File = File>>(
 fn begin<'a, R: Files<File = File>>(
     files: &R,
     alloc: Global,
-    config: &Config,
+    config: Arc<Config>,
     folder: Folder,
     names: &[FileName],
     boot: u64,
     pacing: Pacing<'a>,
 ) -> Result<Started<'a>, StartFault>
-    ensures key { IfOk result (λ started. started.key.generation ≡ started.store.header.generation) }
-    ensures server { IfOk result (λ started. IsServerOf config.now started.store.books) }
-    ensures table { IfOk result (λ started. started.store.table.items ≡ octets_of config.now) }
+    ensures config { IfOk result (λ started. started.store.config ≡ config) }
     ensures number { IfOk result (λ started. IsNewNumber names.now started.store.header) }
     ensures first { IfOk result (λ started.
         started.store.header ≡ first_header started.store.header.generation boot) }
-    ensures books { IfOk result (λ started. started.store.books ≡ new_server config.now) }
-    ensures sessions { IfOk result (λ started. AreSessionsOf started.store.books started.found.sessions) }
+    ensures books { IfOk result (λ started. started.store.books ≡ new_server (arc_value config)) }
     ensures behind { IfOk result (λ started.
-        IsBehind config.now started.store.books boot started.found.behind) }
+        IsBehind (arc_value started.store.config) started.store.books boot started.found.behind) }
     ensures from { IfOk result (λ started. started.found.from ≡ None) }
     ensures torn { IfOk result (λ started. started.found.torn ≡ 0) }
 {
     let header = first_header(new_number(names)?, boot);
-    let books = ServerBooks::new(alloc, config)?;
+    let books = ServerBooks::new(alloc, &*config)?;
     let begun = begin_generation(files, alloc, config, &folder, header, books, pacing)?;
     let NewGeneration { store, key } = begun;
     let found = Found {
@@ -181,7 +178,7 @@ fn begin<'a, R: Files<File = File>>(
         moves: 0,
         sessions: sessions_in(store.rows(alloc)?.as_slice()),
         torn: 0,
-        behind: behind_books(config, store.books(), boot),
+        behind: behind_books(&**store.config(), store.books(), boot),
         held: None,
     };
     Ok(Started {
@@ -196,7 +193,7 @@ fn begin<'a, R: Files<File = File>>(
 fn follow<'a, R: Files<File = File>>(
     files: &R,
     alloc: Global,
-    config: &Config,
+    config: Arc<Config>,
     folder: Folder,
     names: &[FileName],
     begun: Begun,
@@ -204,18 +201,15 @@ fn follow<'a, R: Files<File = File>>(
     pacing: Pacing<'a>,
 ) -> Result<Started<'a>, StartFault>
     requires { Contains names.now (FileName.Log begun.generation) }
-    ensures key { IfOk result (λ started. started.key.generation ≡ started.store.header.generation) }
-    ensures server { IfOk result (λ started. IsServerOf config.now started.store.books) }
-    ensures table { IfOk result (λ started. started.store.table.items ≡ octets_of config.now) }
+    ensures config { IfOk result (λ started. started.store.config ≡ config) }
     ensures from { IfOk result (λ started. started.found.from ≡ Some begun.generation) }
     ensures number { IfOk result (λ started. IsNewNumber names.now started.store.header) }
     ensures after { IfOk result (λ started.
         Precedes begun.generation (Numbered started.store.header.generation)) }
     ensures follows { IfOk result (λ started.
-        Follows config.now begun started.store.header started.store.books) }
-    ensures sessions { IfOk result (λ started. AreSessionsOf started.store.books started.found.sessions) }
+        Follows (arc_value config) begun started.store.header started.store.books) }
     ensures behind { IfOk result (λ started.
-        IsBehind config.now started.store.books now started.found.behind) }
+        IsBehind (arc_value started.store.config) started.store.books now started.found.behind) }
 {
     match begun.generation() {
         Generation::Former { era, number } => upgrade(
@@ -232,7 +226,7 @@ fn follow<'a, R: Files<File = File>>(
 fn follow_numbered<'a, R: Files<File = File>>(
     files: &R,
     alloc: Global,
-    config: &Config,
+    config: Arc<Config>,
     folder: Folder,
     names: &[FileName],
     begun: Begun,
@@ -240,23 +234,20 @@ fn follow_numbered<'a, R: Files<File = File>>(
     now: u64,
     pacing: Pacing<'a>,
 ) -> Result<Started<'a>, StartFault>
-    ensures key { IfOk result (λ started. started.key.generation ≡ started.store.header.generation) }
-    ensures server { IfOk result (λ started. IsServerOf config.now started.store.books) }
-    ensures table { IfOk result (λ started. started.store.table.items ≡ octets_of config.now) }
+    ensures config { IfOk result (λ started. started.store.config ≡ config) }
     ensures from { IfOk result (λ started. started.found.from ≡ Some (Numbered number)) }
     ensures number { IfOk result (λ started. IsNewNumber names.now started.store.header) }
     ensures follows { IfOk result (λ started.
-        Follows config.now begun started.store.header started.store.books) }
-    ensures sessions { IfOk result (λ started. AreSessionsOf started.store.books started.found.sessions) }
+        Follows (arc_value config) begun started.store.header started.store.books) }
     ensures behind { IfOk result (λ started.
-        IsBehind config.now started.store.books now started.found.behind) }
+        IsBehind (arc_value started.store.config) started.store.books now started.found.behind) }
 {
-    match other_config(alloc, config, &begun, number)? {
+    match other_config(alloc, &*config, &begun, number)? {
         None => go_on(
             files, alloc, config, folder, names, begun, number, now, pacing,
         ),
         Some(old) => change(
-            files, alloc, &old, config, folder, names, begun, number, now, pacing,
+            files, alloc, old, config, folder, names, begun, number, now, pacing,
         ),
     }
 }
@@ -265,7 +256,7 @@ fn follow_numbered<'a, R: Files<File = File>>(
 fn go_on<'a, R: Files<File = File>>(
     files: &R,
     alloc: Global,
-    config: &Config,
+    config: Arc<Config>,
     folder: Folder,
     names: &[FileName],
     begun: Begun,
@@ -273,45 +264,40 @@ fn go_on<'a, R: Files<File = File>>(
     now: u64,
     pacing: Pacing<'a>,
 ) -> Result<Started<'a>, StartFault>
-    ensures key { IfOk result (λ started. started.key.generation ≡ started.store.header.generation) }
-    ensures server { IfOk result (λ started. IsServerOf config.now started.store.books) }
-    ensures table { IfOk result (λ started. started.store.table.items ≡ octets_of config.now) }
+    ensures config { IfOk result (λ started. started.store.config ≡ config) }
     ensures from { IfOk result (λ started. started.found.from ≡ Some (Numbered number)) }
     ensures number { IfOk result (λ started. IsNewNumber names.now started.store.header) }
     ensures goes_on { IfOk result (λ started.
-        GoesOn config.now begun started.store.header started.store.books) }
-    ensures sessions { IfOk result (λ started. AreSessionsOf started.store.books started.found.sessions) }
+        GoesOn (arc_value config) begun started.store.header started.store.books) }
     ensures behind { IfOk result (λ started.
-        IsBehind config.now started.store.books now started.found.behind) }
+        IsBehind (arc_value started.store.config) started.store.books now started.found.behind) }
 {
     let former = reopen(alloc, config, begun, number, pacing)?;
-    go_on_from(files, alloc, config, folder, names, former, now, pacing)
+    go_on_from(files, alloc, folder, names, former, now, pacing)
 }
 
 /// Goes on from an opened generation, in a new one with the books of its log.
 fn go_on_from<'a, R: Files<File = File>>(
     files: &R,
     alloc: Global,
-    config: &Config,
     folder: Folder,
     names: &[FileName],
     former: Former<'a>,
     now: u64,
     pacing: Pacing<'a>,
 ) -> Result<Started<'a>, StartFault>
-    ensures key { IfOk result (λ started. started.key.generation ≡ started.store.header.generation) }
+    requires { IsServerOf (arc_value former.opened.store.config) former.opened.store.books }
     ensures books { IfOk result (λ started.
         started.store.books ≡ former.entry.opened.store.books) }
-    ensures table { IfOk result (λ started.
-        started.store.table ≡ former.entry.opened.store.table) }
+    ensures config { IfOk result (λ started.
+        started.store.config ≡ former.entry.opened.store.config) }
     ensures from { IfOk result (λ started. started.found.from ≡ Some (Numbered former.entry.number)) }
     ensures moves { IfOk result (λ started. started.found.moves ≡ started.store.header.lines) }
     ensures torn { IfOk result (λ started. started.found.torn ≡ former.entry.opened.torn) }
     ensures behind { IfOk result (λ started.
-        IsBehind config.now started.store.books now started.found.behind) }
+        IsBehind (arc_value started.store.config) started.store.books now started.found.behind) }
     ensures header { IfOk result (λ started. started.store.header ≡ header_after
         former.entry.opened.header (greatest_by number_of names.now + 1) former.entry.opened.moves) }
-    ensures sessions { IfOk result (λ started. AreSessionsOf started.store.books started.found.sessions) }
 {
     let Former { number, opened } = former;
     let Opened {
@@ -329,7 +315,7 @@ fn go_on_from<'a, R: Files<File = File>>(
         moves: header.lines,
         sessions: sessions_in(store.rows(alloc)?.as_slice()),
         torn,
-        behind: behind_books(config, store.books(), now),
+        behind: behind_books(&**store.config(), store.books(), now),
         held: None,
     };
     let key = renew(files, alloc, &folder, &mut store, header, pacing)?;
@@ -352,7 +338,7 @@ fn renew<'a, R: Files<File = File>>(
     pacing: Pacing<'a>,
 ) -> Result<LogKey, StartFault>
     ensures books { store.new.books ≡ store.old.books }
-    ensures table { store.new.table ≡ store.old.table }
+    ensures config { store.new.config ≡ store.old.config }
     ensures header { OnOk result (store.new.header ≡ header) }
     ensures key { IfOk result (λ key. key.generation ≡ header.generation) }
 {

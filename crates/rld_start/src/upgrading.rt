@@ -2,13 +2,11 @@
 
 ghost use Rattle.std.specs.Prelude.{◌≡◌, ◌≤◌, IfOk, OnOk, Some};
 ghost use Rattle.md5.specs.Md5.{md5};
-ghost use Rattle.rld_books.specs.Saved.{IsServerOf};
+ghost use Rattle.std.specs.Arc.{arc_value};
 ghost use Rattle.rld_folder.specs.declared.name.Generation.TheVariants.{Former as former_named};
 ghost use Rattle.rld_start.specs.Behind.{IsBehind};
-ghost use Rattle.rld_start.specs.Counted.{AreSessionsOf};
 ghost use Rattle.rld_start.specs.Going.{AdmitsFormer, HasFormerHeader, IsTableOf};
 ghost use Rattle.rld_start.specs.NextHeaders.{IsNewNumber};
-ghost use Rattle.rld_store.specs.Generations.{octets_of};
 
 use crate::changing::{LogEnd, change_from};
 use crate::fault::StartFault;
@@ -28,6 +26,7 @@ use rld_store::{Parts, StoreFault, read_former};
 use rsl_accounts::Config;
 use std::alloc::Global;
 use std::fs::{File, Files};
+use std::sync::Arc;
 
 /// The table of an era of before, and a configuration that has it.
 #[derive(Drop)]
@@ -127,7 +126,7 @@ fn read_era<R: Files<File = File>>(
 pub(crate) fn upgrade<'a, R: Files<File = File>>(
     files: &R,
     alloc: Global,
-    config: &Config,
+    config: Arc<Config>,
     folder: Folder,
     names: &[FileName],
     begun: Begun,
@@ -136,16 +135,13 @@ pub(crate) fn upgrade<'a, R: Files<File = File>>(
     now: u64,
     pacing: Pacing<'a>,
 ) -> Result<Started<'a>, StartFault>
-    ensures key { IfOk result (λ started. started.key.generation ≡ started.store.header.generation) }
-    ensures server { IfOk result (λ started. IsServerOf config.now started.store.books) }
-    ensures table { IfOk result (λ started. started.store.table.items ≡ octets_of config.now) }
+    ensures config { IfOk result (λ started. started.store.config ≡ config) }
     ensures number { IfOk result (λ started. IsNewNumber names.now started.store.header) }
     ensures from { IfOk result (λ started. started.found.from ≡ Some (former_named era number)) }
     ensures admits { IfOk result (λ started.
-        AdmitsFormer config.now begun started.store.header started.store.books) }
-    ensures sessions { IfOk result (λ started. AreSessionsOf started.store.books started.found.sessions) }
+        AdmitsFormer (arc_value config) begun started.store.header started.store.books) }
     ensures behind { IfOk result (λ started.
-        IsBehind config.now started.store.books now started.found.behind) }
+        IsBehind (arc_value started.store.config) started.store.books now started.found.behind) }
 {
     let generation = Generation::Former { era, number };
     let header = match header_in(alloc, &begun) {

@@ -6,7 +6,6 @@ use Rattle.rsl_shard.specs.declared.line.Line.{Line}
 use Rattle.rsl_shard.specs.declared.moved.Move.{Move}
 use Rattle.rld_books.specs.Server.{ServerSeen, decisions_of, journal_of, server_after}
 use Rattle.rld_log.specs.declared.log.Ending.{Ending}
-use Rattle.rld_spelling.specs.declared.moves.Counts.{Counts}
 use Rattle.rld_store.specs.Standing.{StandsFor}
 use Rattle.rld_store.specs.Stored.{HasRecorded}
 use Rattle.rld_store.specs.declared.store.End.{End}
@@ -24,14 +23,14 @@ count_decided begun moves =
     length-map (journal_of begun moves) (λ (line : Line). line.decision) ∙ count_lines begun moves
 
 -- a batch was not recorded: it or the one before it is left unanswered
-pub recorded_still : (config : Configuration) (opening : ServerSeen) (counts : Counts)
-    (table : List ℕ) (tears : List ℕ → List ℕ → Type 0) (end : End) (seen : List ℕ)
+pub recorded_still : (config : Configuration) (opening : ServerSeen)
+    (tears : List ℕ → List ℕ → Type 0) (end : End) (seen : List ℕ)
     (may_leave : Ending → List ℕ → Type 0) (whole : ℕ)
     (books : ServerSeen) (history before batch : List Move)
-    → StandsFor config opening counts table tears end seen may_leave whole books history before
-    ⊎ StandsFor config opening counts table tears end seen may_leave whole books history batch
-    → HasRecorded config opening counts table tears end seen may_leave whole books history
-recorded_still config opening counts table tears end seen may_leave whole books history before batch (inl so) =
+    → StandsFor config opening tears end seen may_leave whole books history before
+    ⊎ StandsFor config opening tears end seen may_leave whole books history batch
+    → HasRecorded config opening tears end seen may_leave whole books history
+recorded_still config opening tears end seen may_leave whole books history before batch (inl so) =
     record { unanswered = before; stands = so }
-recorded_still config opening counts table tears end seen may_leave whole books history before batch (inr so) =
+recorded_still config opening tears end seen may_leave whole books history before batch (inr so) =
     record { unanswered = batch; stands = so }

@@ -8,7 +8,6 @@ ghost use Rattle.rld_spelling.specs.Tables.{table_of};
 ghost use Rattle.rld_start.specs.Counted.{AreSessionsOf};
 ghost use Rattle.rld_start.specs.NextHeaders.{header_changed};
 ghost use Rattle.rld_state.specs.Keeping.{IsGone, is_over};
-ghost use Rattle.rld_store.specs.Generations.{octets_of};
 ghost use Rattle.rld_store.specs.Premises.{Only};
 ghost use Rattle.rld_store.specs.Standing.{StandsFor};
 
@@ -70,15 +69,14 @@ impl<L: Log + Drop> ServerState<L> {
         ensures gone { IfErr result (IsGone next.key.generation) }
         ensures newer { OnOk result
             (self.old.recorder.header.generation < self.new.recorder.header.generation) }
-        ensures config { OnOk result (self.new.config ≡ config) }
+        ensures config { OnOk result (self.new.recorder.config ≡ config) }
         ensures key { OnOk result (self.new.key ≡ next.key) }
         ensures header { OnOk result (self.new.recorder.header
             ≡ header_changed self.old.recorder.header next.key.generation self.old.moves) }
         ensures moves { OnOk result (self.new.moves ≡ 0) }
-        ensures server { OnOk result (IsServerOf (arc_value config) self.new.recorder.books) }
         ensures over { OnOk result (self.new.recorder.is_over ≡ false) }
         ensures admitted { OnOk result
-            (AreAdmitted (table_of (arc_value self.old.config)) self.old.recorder.books
+            (AreAdmitted (table_of (arc_value self.old.recorder.config)) self.old.recorder.books
             (table_of (arc_value config)) self.new.recorder.books) }
         ensures sessions { IfOk result (λ changed.
             AreSessionsOf self.old.recorder.books changed.change.held
@@ -89,14 +87,12 @@ impl<L: Log + Drop> ServerState<L> {
 
         // The store stands for a history of no moves after its books.
         ensures stands { IsTrue (L.tells self.new.recorder.log) → Only (L.seen next.log) (L.may_leave next.log) →
-            OnOk result (StandsFor (arc_value config) self.new.recorder.books self.new.recorder.counts
-            self.new.recorder.table.items L.tears
+            OnOk result (StandsFor (arc_value config) self.new.recorder.books L.tears
             self.new.recorder.end (L.seen self.new.recorder.log) (L.may_leave self.new.recorder.log)
             self.new.recorder.whole self.new.recorder.books [] []) }
 
         // After a fault the present generation stays, with its accounts, its log and its count.
         ensures same { OnErr result (self.new.recorder ≡ self.old.recorder) }
-        ensures same_config { OnErr result (self.new.config ≡ self.old.config) }
         ensures same_key { OnErr result (self.new.key ≡ self.old.key) }
         ensures same_moves { OnErr result (self.new.moves ≡ self.old.moves) }
     {
@@ -105,10 +101,10 @@ impl<L: Log + Drop> ServerState<L> {
         }
         let NextLog { key, log } = next;
         let generation = key.generation();
-        match self.opening(alloc, generations, &*config, generation, log, blanks) {
+        match self.opening(alloc, generations, config, generation, log, blanks) {
             Ok(opening) => {
                 let change = opening.change;
-                let former = self.enter(opening, key, config);
+                let former = self.enter(opening, key);
                 Ok(Changed { change, former })
             }
             Err(fault) => {
@@ -124,7 +120,7 @@ impl<L: Log + Drop> ServerState<L> {
         &self,
         alloc: Global,
         generations: &G,
-        config: &Config,
+        config: Arc<Config>,
         generation: u64,
         log: L,
         blanks: BlankBooks,
@@ -132,12 +128,12 @@ impl<L: Log + Drop> ServerState<L> {
         ensures newer { OnOk result (self.now.recorder.header.generation < generation) }
         ensures header { IfOk result (λ opening. opening.store.header
             ≡ header_changed self.now.recorder.header generation self.now.moves) }
-        ensures server { IfOk result (λ opening. IsServerOf config.now opening.store.books) }
-        ensures table { IfOk result (λ opening. opening.store.table.items ≡ octets_of config.now) }
+        ensures config { IfOk result (λ opening. opening.store.config ≡ config) }
+        ensures server { IfOk result (λ opening. IsServerOf (arc_value config) opening.store.books) }
         ensures over { IfOk result (λ opening. opening.store.is_over ≡ false) }
         ensures admitted { IfOk result (λ opening.
-            AreAdmitted (table_of (arc_value self.now.config)) self.now.recorder.books
-            (table_of config.now) opening.store.books) }
+            AreAdmitted (table_of (arc_value self.now.recorder.config)) self.now.recorder.books
+            (table_of (arc_value config)) opening.store.books) }
         ensures synced { IfOk result (λ opening. opening.synced.generation ≡ generation) }
         ensures held { IfOk result (λ opening.
             AreSessionsOf self.now.recorder.books opening.change.held) }
@@ -146,7 +142,7 @@ impl<L: Log + Drop> ServerState<L> {
         ensures going_on { IsErrOf result RollFault.Ended → ⊥ }
         ensures stands { IfOk result (λ opening. IsTrue (L.tells opening.store.log) →
             Only (L.seen log) (L.may_leave log) →
-            StandsFor config.now opening.store.books opening.store.counts opening.store.table.items L.tears
+            StandsFor (arc_value config) opening.store.books L.tears
             opening.store.end
             (L.seen opening.store.log) (L.may_leave opening.store.log) opening.store.whole opening.store.books [] []) }
     {
@@ -176,24 +172,24 @@ impl<L: Log + Drop> ServerState<L> {
     fn admit(
         &self,
         alloc: Global,
-        config: &Config,
+        config: Arc<Config>,
         header: Header,
         blanks: BlankBooks,
         log: L,
     ) -> Result<Store<L>, RollFault>
         ensures header { IfOk result (λ store. store.header ≡ header) }
-        ensures server { IfOk result (λ store. IsServerOf config.now store.books) }
-        ensures table { IfOk result (λ store. store.table.items ≡ octets_of config.now) }
+        ensures config { IfOk result (λ store. store.config ≡ config) }
+        ensures server { IfOk result (λ store. IsServerOf (arc_value config) store.books) }
         ensures over { IfOk result (λ store. store.is_over ≡ false) }
         ensures admitted { IfOk result (λ store.
-            AreAdmitted (table_of (arc_value self.now.config)) self.now.recorder.books
-            (table_of config.now) store.books) }
+            AreAdmitted (table_of (arc_value self.now.recorder.config)) self.now.recorder.books
+            (table_of (arc_value config)) store.books) }
         ensures going_on { IsErrOf result RollFault.Ended → ⊥ }
 
         // The store stands for a history of no moves after these books.
         ensures stands { IfOk result (λ store. IsTrue (L.tells store.log) →
             Only (L.seen log) (L.may_leave log) →
-            StandsFor config.now store.books store.counts store.table.items L.tears store.end (L.seen store.log)
+            StandsFor (arc_value config) store.books L.tears store.end (L.seen store.log)
             (L.may_leave store.log) store.whole store.books [] []) }
     {
         let books = admitted_books(
@@ -201,7 +197,7 @@ impl<L: Log + Drop> ServerState<L> {
             self.accounts(),
             Generation::Numbered(self.header().generation),
             self.recorder().books(),
-            config,
+            &*config,
             blanks,
         )?;
         match Store::begin_with(alloc, config, header, books, log) {

@@ -35,7 +35,7 @@ impl<L: Log + Drop> ServerState<L> {
     /// The greatest clock of its books: the greatest moment that any account has seen, in seconds since
     /// 1970.
     pub fn clock(&self) -> u64
-        ensures { IsGreatestClock self.now.recorder.books (length (arc_value self.now.config).accounts) result }
+        ensures { IsGreatestClock self.now.recorder.books (length (arc_value self.now.recorder.config).accounts) result }
     {
         self.recorder().books().clock(self.accounts())
     }

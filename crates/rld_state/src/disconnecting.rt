@@ -24,11 +24,11 @@ impl<L: Log + Drop> ServerState<L> {
         named: &NamedSession,
     ) -> Result<Result<u16, DisconnectFault>, FreeFault>
         ensures found { IfOk result
-            (GoesTo (arc_value self.now.config) self.now.recorder.books named.now) }
+            (GoesTo (arc_value self.now.recorder.config) self.now.recorder.books named.now) }
         ensures account { IsErrOf result FreeFault.UnknownAccount ↔
-            (account_number (arc_value self.now.config) named.now.account ≡ None) }
+            (account_number (arc_value self.now.recorder.config) named.now.account ≡ None) }
         ensures client { IsErrOf result FreeFault.UnknownClient →
-            client_number (arc_value self.now.config) named.now.client ≡ None }
+            client_number (arc_value self.now.recorder.config) named.now.client ≡ None }
     {
         let stop = Stop::of(alloc, self.accounts(), self.boot(), named)?;
         Ok(self.port_by(alloc, named, &stop)?)
@@ -42,7 +42,7 @@ impl<L: Log + Drop> ServerState<L> {
         stop: &Stop,
     ) -> Result<Result<u16, DisconnectFault>, NoMemory>
         ensures { IfOk result (λ found. found
-            ≡ sent_to (port_of (arc_value self.now.config) named.now.client)
+            ≡ sent_to (port_of (arc_value self.now.recorder.config) named.now.client)
             (is_held_in self.now.recorder.books stop.now)) }
     {
         let is_held = self.holds(alloc, stop)?;

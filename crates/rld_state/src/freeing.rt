@@ -59,30 +59,30 @@ impl<L: Log + Drop> ServerState<L> {
         moment: u64,
     ) -> Result<Freed, FreeFault>
         ensures freed { IfOk result
-            (IsFreed (arc_value self.old.config) self.old.recorder.books named.now moment) }
+            (IsFreed (arc_value self.old.recorder.config) self.old.recorder.books named.now moment) }
         ensures books { IfOk result (λ freed.
             self.new.recorder.books ≡ books_after_it self.old.recorder.books freed) }
         ensures moves { IfOk result (λ freed. self.new.moves ≡ moves_after_it self.old.moves freed) }
         ensures header { self.new.recorder.header ≡ self.old.recorder.header }
-        ensures config { self.new.config ≡ self.old.config }
+        ensures config { self.new.recorder.config ≡ self.old.recorder.config }
         ensures not_held { IfOk result (StaysUnheld self.old self.new) }
         ensures noted { IfOk result (IsNoted
             (record { failed = self.old.has_failed; ended = self.old.has_ended })
             (record { failed = self.new.has_failed; ended = self.new.has_ended })) }
         ensures err { OnErr result (self.new ≡ self.old) }
         ensures account { IsErrOf result FreeFault.UnknownAccount ↔
-            (account_number (arc_value self.old.config) named.now.account ≡ None) }
+            (account_number (arc_value self.old.recorder.config) named.now.account ≡ None) }
         ensures client { IsErrOf result FreeFault.UnknownClient →
-            client_number (arc_value self.old.config) named.now.client ≡ None }
+            client_number (arc_value self.old.recorder.config) named.now.client ≡ None }
 
         // The store has recorded what it had before, and that Stop.
         ensures stands { IsTrue (L.tells self.new.recorder.log) →
-            (config : Configuration) (opening : ServerSeen) (history : List OneMove) →
+            (opening : ServerSeen) (history : List OneMove) →
             (IsTrue (L.tells self.old.recorder.log) →
-            HasRecorded config opening self.old.recorder.counts self.old.recorder.table.items L.tears self.old.recorder.end
+            HasRecorded (arc_value self.old.recorder.config) opening L.tears self.old.recorder.end
             (L.seen self.old.recorder.log) (L.may_leave self.old.recorder.log) self.old.recorder.whole
             self.old.recorder.books history) → IfOk result (λ freed.
-            HasRecorded config opening self.new.recorder.counts self.new.recorder.table.items L.tears self.new.recorder.end
+            HasRecorded (arc_value self.old.recorder.config) opening L.tears self.new.recorder.end
             (L.seen self.new.recorder.log) (L.may_leave self.new.recorder.log) self.new.recorder.whole
             self.new.recorder.books (history_after_it history freed)) }
     {
@@ -97,7 +97,7 @@ impl<L: Log + Drop> ServerState<L> {
             self.new.recorder.books ≡ books_after_it self.old.recorder.books freed) }
         ensures moves { IfOk result (λ freed. self.new.moves ≡ moves_after_it self.old.moves freed) }
         ensures header { self.new.recorder.header ≡ self.old.recorder.header }
-        ensures config { self.new.config ≡ self.old.config }
+        ensures config { self.new.recorder.config ≡ self.old.recorder.config }
         ensures not_held { IfOk result (StaysUnheld self.old self.new) }
         ensures noted { IfOk result (IsNoted
             (record { failed = self.old.has_failed; ended = self.old.has_ended })
@@ -106,12 +106,12 @@ impl<L: Log + Drop> ServerState<L> {
 
         // The store has recorded what it had before, and that Stop.
         ensures stands { IsTrue (L.tells self.new.recorder.log) →
-            (config : Configuration) (opening : ServerSeen) (history : List OneMove) →
+            (opening : ServerSeen) (history : List OneMove) →
             (IsTrue (L.tells self.old.recorder.log) →
-            HasRecorded config opening self.old.recorder.counts self.old.recorder.table.items L.tears self.old.recorder.end
+            HasRecorded (arc_value self.old.recorder.config) opening L.tears self.old.recorder.end
             (L.seen self.old.recorder.log) (L.may_leave self.old.recorder.log) self.old.recorder.whole
             self.old.recorder.books history) → IfOk result (λ freed.
-            HasRecorded config opening self.new.recorder.counts self.new.recorder.table.items L.tears self.new.recorder.end
+            HasRecorded (arc_value self.old.recorder.config) opening L.tears self.new.recorder.end
             (L.seen self.new.recorder.log) (L.may_leave self.new.recorder.log) self.new.recorder.whole
             self.new.recorder.books (history_after_it history freed)) }
     {
@@ -139,27 +139,27 @@ impl<L: Log + Drop> ServerState<L> {
         moment: u64,
     ) -> Result<Freed, FreeFault>
         ensures freed { IfOk result
-            (AreFreed (arc_value self.old.config) self.old.recorder.books named.now moment) }
+            (AreFreed (arc_value self.old.recorder.config) self.old.recorder.books named.now moment) }
         ensures books { IfOk result (λ freed.
             self.new.recorder.books ≡ books_after_it self.old.recorder.books freed) }
         ensures moves { IfOk result (λ freed. self.new.moves ≡ moves_after_it self.old.moves freed) }
         ensures header { self.new.recorder.header ≡ self.old.recorder.header }
-        ensures config { self.new.config ≡ self.old.config }
+        ensures config { self.new.recorder.config ≡ self.old.recorder.config }
         ensures noted { IfOk result (IsNoted
             (record { failed = self.old.has_failed; ended = self.old.has_ended })
             (record { failed = self.new.has_failed; ended = self.new.has_ended })) }
         ensures err { OnErr result (self.new ≡ self.old) }
         ensures client { IsErrOf result FreeFault.UnknownClient ↔
-            (client_number (arc_value self.old.config) named.now.client ≡ None) }
+            (client_number (arc_value self.old.recorder.config) named.now.client ≡ None) }
 
         // The store has recorded what it had before, and that restart.
         ensures stands { IsTrue (L.tells self.new.recorder.log) →
-            (config : Configuration) (opening : ServerSeen) (history : List OneMove) →
+            (opening : ServerSeen) (history : List OneMove) →
             (IsTrue (L.tells self.old.recorder.log) →
-            HasRecorded config opening self.old.recorder.counts self.old.recorder.table.items L.tears self.old.recorder.end
+            HasRecorded (arc_value self.old.recorder.config) opening L.tears self.old.recorder.end
             (L.seen self.old.recorder.log) (L.may_leave self.old.recorder.log) self.old.recorder.whole
             self.old.recorder.books history) → IfOk result (λ freed.
-            HasRecorded config opening self.new.recorder.counts self.new.recorder.table.items L.tears self.new.recorder.end
+            HasRecorded (arc_value self.old.recorder.config) opening L.tears self.new.recorder.end
             (L.seen self.new.recorder.log) (L.may_leave self.new.recorder.log) self.new.recorder.whole
             self.new.recorder.books (history_after_it history freed)) }
     {
@@ -174,7 +174,7 @@ impl<L: Log + Drop> ServerState<L> {
             self.new.recorder.books ≡ books_after_it self.old.recorder.books freed) }
         ensures moves { IfOk result (λ freed. self.new.moves ≡ moves_after_it self.old.moves freed) }
         ensures header { self.new.recorder.header ≡ self.old.recorder.header }
-        ensures config { self.new.config ≡ self.old.config }
+        ensures config { self.new.recorder.config ≡ self.old.recorder.config }
         ensures noted { IfOk result (IsNoted
             (record { failed = self.old.has_failed; ended = self.old.has_ended })
             (record { failed = self.new.has_failed; ended = self.new.has_ended })) }
@@ -182,12 +182,12 @@ impl<L: Log + Drop> ServerState<L> {
 
         // The store has recorded what it had before, and that restart.
         ensures stands { IsTrue (L.tells self.new.recorder.log) →
-            (config : Configuration) (opening : ServerSeen) (history : List OneMove) →
+            (opening : ServerSeen) (history : List OneMove) →
             (IsTrue (L.tells self.old.recorder.log) →
-            HasRecorded config opening self.old.recorder.counts self.old.recorder.table.items L.tears self.old.recorder.end
+            HasRecorded (arc_value self.old.recorder.config) opening L.tears self.old.recorder.end
             (L.seen self.old.recorder.log) (L.may_leave self.old.recorder.log) self.old.recorder.whole
             self.old.recorder.books history) → IfOk result (λ freed.
-            HasRecorded config opening self.new.recorder.counts self.new.recorder.table.items L.tears self.new.recorder.end
+            HasRecorded (arc_value self.old.recorder.config) opening L.tears self.new.recorder.end
             (L.seen self.new.recorder.log) (L.may_leave self.new.recorder.log) self.new.recorder.whole
             self.new.recorder.books (history_after_it history freed)) }
     {

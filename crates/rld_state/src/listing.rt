@@ -40,10 +40,10 @@ impl<L: Log + Drop> ServerState<L> {
             AreHeldFrom self.now.recorder.books first page.held.items) }
         ensures next { IfOk result (λ page. page.next ≡ first + length page.held.items) }
         ensures few { IfOk result (λ page. length page.held.items ≤ 1024) }
-        ensures some { first < length (arc_value self.now.config).accounts →
+        ensures some { first < length (arc_value self.now.recorder.config).accounts →
             IfOk result (λ page. first < page.next) }
-        ensures within { first ≤ length (arc_value self.now.config).accounts →
-            IfOk result (λ page. page.next ≤ length (arc_value self.now.config).accounts) }
+        ensures within { first ≤ length (arc_value self.now.recorder.config).accounts →
+            IfOk result (λ page. page.next ≤ length (arc_value self.now.recorder.config).accounts) }
     {
         let end = end_of(self.accounts().accounts(), first);
         let mut held = Vec::new(alloc);
@@ -64,11 +64,11 @@ impl<L: Log + Drop> ServerState<L> {
     /// if there is no such account. It fails only if memory is refused.
     pub fn held_by(&self, alloc: Global, name: &[u8]) -> Result<Option<AccountLinks>, NoMemory>
         ensures account { IfOk result (λ found. option_map (λ (held : HeldLinks). held.account) found
-            ≡ account_number (arc_value self.now.config) name.now) }
+            ≡ account_number (arc_value self.now.recorder.config) name.now) }
         ensures links { IfOk result (λ found. IfSome found (λ held.
             saved_links held.links.items ≡ links_held self.now.recorder.books held.account)) }
         ensures within { IfOk result (λ found. IfSome found (λ held.
-            held.account < length (arc_value self.now.config).accounts)) }
+            held.account < length (arc_value self.now.recorder.config).accounts)) }
     {
         match self.accounts().account(name) {
             Some(account) => Ok(Some(self.links_held(alloc, account)?)),

@@ -5,13 +5,11 @@ ghost use Rattle.rld_books.specs.Server.{ServerSeen, decisions_of, replay};
 ghost use Rattle.rld_state.specs.Keeping.{IsGone, ends, is_failed, is_over, moves_after};
 ghost use Rattle.rld_spelling.specs.Tables.{table_of};
 ghost use Rattle.rld_start.specs.NextHeaders.{header_after};
-ghost use Rattle.rld_store.specs.Generations.{octets_of};
 ghost use Rattle.rld_store.specs.Premises.{Only};
 ghost use Rattle.rld_store.specs.Recorded.{AreDecided, IsOfTable, is_ended, is_last};
 ghost use Rattle.rld_store.specs.Standing.{StandsFor};
 ghost use Rattle.rld_store.specs.Stored.{HasRecorded};
 ghost use Rattle.rld_store.specs.declared.fault.RecordFault.TheVariants.{Ended as over, Failed as failed};
-ghost use Rattle.rsl_accounts.specs.Configuration.{Configuration};
 ghost use Rattle.rsl_shard.specs.declared.moved.Move.{Move as OneMove};
 
 use crate::changing::Opening;
@@ -52,22 +50,20 @@ struct Unbegun {
     fault: RollFault,
 }
 
-/// What the lock of a server protects: its recorder, which is not called again once it can record
-/// nothing more; the accounts, clients and rules of its books; the number of moves of the generation
-/// that it writes; and whether a batch was not recorded recently.
+/// What the lock of a server protects: its recorder, with the accounts and their books, which is not
+/// called again once it can record nothing more; the number of moves of the generation that it writes;
+/// and whether a batch was not recorded recently.
 ///
-/// What each of its values keeps, whoever has the lock: its books are of these accounts, that
-/// generation has their table, and the right to remove its log is kept: nothing else can remove it.
+/// What each of its values keeps, whoever has the lock: its books are of these accounts, and the right
+/// to remove the log of its generation is kept: nothing else can remove it.
 #[derive(Drop)]
 pub struct ServerState<L: Log> {
     recorder: Store<L>,
-    config: Arc<Config>,
     key: LogKey,
     moves: u64,
     has_ended: bool,
     has_failed: bool,
-    ghost server: { IsServerOf (arc_value config) recorder.books },
-    ghost table: { recorder.table.items ≡ octets_of (arc_value config) },
+    ghost server: { IsServerOf (arc_value recorder.config) recorder.books },
     ghost kept: { key.generation ≡ recorder.header.generation },
 }
 
@@ -94,7 +90,7 @@ impl<L: Log + Drop> ServerState<L> {
         ensures failed { self.new.has_failed ≡ (self.old.has_failed || is_failed result) }
         ensures moves { self.new.moves ≡ moves_after self.old.moves (length batch.items) result }
         ensures header { self.new.recorder.header ≡ self.old.recorder.header }
-        ensures config { self.new.config ≡ self.old.config }
+        ensures config { self.new.recorder.config ≡ self.old.recorder.config }
 
         // As long as the store could record more, it is noted exactly whether it still can.
         ensures over { self.old.has_ended ≡ false → self.old.recorder.is_over ≡ false →
@@ -110,21 +106,21 @@ impl<L: Log + Drop> ServerState<L> {
 
         // Over a log that tells, the store has recorded what it had before, and the batch.
         ensures recorded { IsTrue (L.tells self.new.recorder.log) →
-            (config : Configuration) (opening : ServerSeen) (history : List OneMove) →
+            (opening : ServerSeen) (history : List OneMove) →
             (IsTrue (L.tells self.old.recorder.log) →
-            HasRecorded config opening self.old.recorder.counts self.old.recorder.table.items L.tears self.old.recorder.end
+            HasRecorded (arc_value self.old.recorder.config) opening L.tears self.old.recorder.end
             (L.seen self.old.recorder.log) (L.may_leave self.old.recorder.log) self.old.recorder.whole
             self.old.recorder.books history) → OnOk result
-            (HasRecorded config opening self.new.recorder.counts self.new.recorder.table.items L.tears self.new.recorder.end
+            (HasRecorded (arc_value self.old.recorder.config) opening L.tears self.new.recorder.end
             (L.seen self.new.recorder.log) (L.may_leave self.new.recorder.log) self.new.recorder.whole
             self.new.recorder.books (history ++ batch.items)) }
         ensures unrecorded { IsTrue (L.tells self.new.recorder.log) →
-            (config : Configuration) (opening : ServerSeen) (history : List OneMove) →
+            (opening : ServerSeen) (history : List OneMove) →
             (IsTrue (L.tells self.old.recorder.log) →
-            HasRecorded config opening self.old.recorder.counts self.old.recorder.table.items L.tears self.old.recorder.end
+            HasRecorded (arc_value self.old.recorder.config) opening L.tears self.old.recorder.end
             (L.seen self.old.recorder.log) (L.may_leave self.old.recorder.log) self.old.recorder.whole
             self.old.recorder.books history) → OnErr result
-            (HasRecorded config opening self.new.recorder.counts self.new.recorder.table.items L.tears self.new.recorder.end
+            (HasRecorded (arc_value self.old.recorder.config) opening L.tears self.new.recorder.end
             (L.seen self.new.recorder.log) (L.may_leave self.new.recorder.log) self.new.recorder.whole
             self.new.recorder.books history) }
     {
@@ -176,9 +172,9 @@ impl<L: Log + Drop> ServerState<L> {
     /// The accounts, clients and rules of its books. It fails only if their reference count is at
     /// its limit.
     pub fn config(&self) -> Result<Arc<Config>, AllocError>
-        ensures { IfOk result (λ config. arc_value config ≡ arc_value self.now.config) }
+        ensures { IfOk result (λ config. arc_value config ≡ arc_value self.now.recorder.config) }
     {
-        Arc::try_clone(&self.config)
+        Arc::try_clone(self.recorder.config())
     }
 
     /// The boot number of its Classes.
@@ -190,17 +186,16 @@ impl<L: Log + Drop> ServerState<L> {
 
     /// The number of the table of these accounts, which the log of its generation has.
     pub fn table(&self) -> u64
-        ensures number { result ≡ self.now.recorder.header.table }
-        ensures octets { self.now.recorder.table.items ≡ octets_of (arc_value self.now.config) }
+        ensures { result ≡ self.now.recorder.header.table }
     {
         self.header().table
     }
 
     /// The accounts, clients and rules, borrowed.
     pub fn accounts(&self) -> &Config
-        ensures { result.now ≡ arc_value self.now.config }
+        ensures { result.now ≡ arc_value self.now.recorder.config }
     {
-        &*self.config
+        &**self.recorder.config()
     }
 
     /// Passes over a generation that did not begin: the present one goes on once the log of that
@@ -217,7 +212,6 @@ impl<L: Log + Drop> ServerState<L> {
         ensures gone { IsGone failed result }
         ensures ended { self.new.has_ended ≡ (self.old.has_ended || ends result) }
         ensures recorder { self.new.recorder ≡ self.old.recorder }
-        ensures config { self.new.config ≡ self.old.config }
         ensures key { self.new.key ≡ self.old.key }
         ensures moves { self.new.moves ≡ self.old.moves }
         ensures failed { self.new.has_failed ≡ self.old.has_failed }
@@ -243,7 +237,6 @@ impl<L: Log + Drop> ServerState<L> {
         ensures found { result ≡ self.old.has_failed }
         ensures taken { self.new.has_failed ≡ false }
         ensures recorder { self.new.recorder ≡ self.old.recorder }
-        ensures config { self.new.config ≡ self.old.config }
         ensures key { self.new.key ≡ self.old.key }
         ensures moves { self.new.moves ≡ self.old.moves }
         ensures ended { self.new.has_ended ≡ self.old.has_ended }
@@ -255,14 +248,12 @@ impl<L: Log + Drop> ServerState<L> {
 }
 
 impl<L: Log + Drop> ServerState<L> {
-    /// The state of a server whose store has recorded nothing since it was made. Its books and its table
-    /// are of this configuration, and it writes the generation of this key, with no move yet.
-    pub fn new(store: Store<L>, config: Arc<Config>, key: LogKey) -> ServerState<L>
-        requires server { IsServerOf (arc_value config) store.books }
-        requires table { store.table.items ≡ octets_of (arc_value config) }
+    /// The state of a server whose store has recorded nothing since it was made. It writes the
+    /// generation of this key, with no move yet.
+    pub fn new(store: Store<L>, key: LogKey) -> ServerState<L>
+        requires server { IsServerOf (arc_value store.config) store.books }
         requires kept { key.generation ≡ store.header.generation }
         ensures recorder { result.recorder ≡ store }
-        ensures config { result.config ≡ config }
         ensures key { result.key ≡ key }
         ensures moves { result.moves ≡ 0 }
         ensures has_ended { result.has_ended ≡ false }
@@ -270,7 +261,6 @@ impl<L: Log + Drop> ServerState<L> {
     {
         ServerState {
             recorder: store,
-            config,
             key,
             moves: 0,
             has_ended: false,
@@ -301,7 +291,7 @@ impl<L: Log + Drop> ServerState<L> {
         ensures header { OnOk result (self.new.recorder.header
             ≡ header_after self.old.recorder.header next.key.generation self.old.moves) }
         ensures moves { OnOk result (self.new.moves ≡ 0) }
-        ensures config { self.new.config ≡ self.old.config }
+        ensures config { self.new.recorder.config ≡ self.old.recorder.config }
         ensures ended { self.new.has_ended ≡ (self.old.has_ended || is_over result) }
         ensures failed { self.new.has_failed ≡ self.old.has_failed }
         ensures books { self.new.recorder.books ≡ self.old.recorder.books }
@@ -310,10 +300,10 @@ impl<L: Log + Drop> ServerState<L> {
 
         // The store stands for the same history, by the next log alone.
         ensures stands { IsTrue (L.tells self.new.recorder.log) → Only (L.seen next.log) (L.may_leave next.log) →
-            (config : Configuration) (opening : ServerSeen) (history unanswered : List OneMove) →
-            StandsFor config opening self.old.recorder.counts self.old.recorder.table.items L.tears self.old.recorder.end (L.seen self.old.recorder.log)
+            (opening : ServerSeen) (history unanswered : List OneMove) →
+            StandsFor (arc_value self.old.recorder.config) opening L.tears self.old.recorder.end (L.seen self.old.recorder.log)
             (L.may_leave self.old.recorder.log) self.old.recorder.whole self.old.recorder.books history unanswered →
-            OnOk result (StandsFor config opening self.new.recorder.counts self.new.recorder.table.items L.tears self.new.recorder.end (L.seen self.new.recorder.log)
+            OnOk result (StandsFor (arc_value self.old.recorder.config) opening L.tears self.new.recorder.end (L.seen self.new.recorder.log)
             (L.may_leave self.new.recorder.log) self.new.recorder.whole self.new.recorder.books history []) }
 
         // After a fault the present generation stays, with its log and its count.
@@ -345,7 +335,7 @@ impl<L: Log + Drop> ServerState<L> {
         ensures newer { OnOk result
             (self.old.recorder.header.generation < self.new.recorder.header.generation) }
         ensures moves { OnOk result (self.new.moves ≡ 0) }
-        ensures config { self.new.config ≡ self.old.config }
+        ensures config { self.new.recorder.config ≡ self.old.recorder.config }
         ensures ended { self.new.has_ended ≡ self.old.has_ended }
         ensures failed { self.new.has_failed ≡ self.old.has_failed }
         ensures going_on { IfErr result (λ unbegun. unbegun.fault ≡ RollFault.Ended → ⊥) }
@@ -358,10 +348,10 @@ impl<L: Log + Drop> ServerState<L> {
         ensures books { self.new.recorder.books ≡ self.old.recorder.books }
         ensures over { self.new.recorder.is_over ≡ self.old.recorder.is_over }
         ensures stands { IsTrue (L.tells self.new.recorder.log) → Only (L.seen log) (L.may_leave log) →
-            (config : Configuration) (opening : ServerSeen) (history unanswered : List OneMove) →
-            StandsFor config opening self.old.recorder.counts self.old.recorder.table.items L.tears self.old.recorder.end (L.seen self.old.recorder.log)
+            (opening : ServerSeen) (history unanswered : List OneMove) →
+            StandsFor (arc_value self.old.recorder.config) opening L.tears self.old.recorder.end (L.seen self.old.recorder.log)
             (L.may_leave self.old.recorder.log) self.old.recorder.whole self.old.recorder.books history unanswered →
-            OnOk result (StandsFor config opening self.new.recorder.counts self.new.recorder.table.items L.tears self.new.recorder.end (L.seen self.new.recorder.log)
+            OnOk result (StandsFor (arc_value self.old.recorder.config) opening L.tears self.new.recorder.end (L.seen self.new.recorder.log)
             (L.may_leave self.new.recorder.log) self.new.recorder.whole self.new.recorder.books history []) }
     {
         let generation = key.generation();
@@ -391,9 +381,10 @@ impl<L: Log + Drop> ServerState<L> {
     /// have not, all is as before. Nothing is copied or made for it, since receivers rest meanwhile.
     pub fn go_on(&mut self, config: Arc<Config>) -> bool
         ensures same { IsTrue result ↔
-            (table_of (arc_value self.old.config) ≡ table_of (arc_value config)) }
-        ensures config { IsTrue result → self.new.config ≡ config }
-        ensures recorder { self.new.recorder ≡ self.old.recorder }
+            (table_of (arc_value self.old.recorder.config) ≡ table_of (arc_value config)) }
+        ensures config { IsTrue result → self.new.recorder.config ≡ config }
+        ensures books { self.new.recorder.books ≡ self.old.recorder.books }
+        ensures header { self.new.recorder.header ≡ self.old.recorder.header }
         ensures key { self.new.key ≡ self.old.key }
         ensures moves { self.new.moves ≡ self.old.moves }
         ensures ended { self.new.has_ended ≡ self.old.has_ended }
@@ -402,16 +393,16 @@ impl<L: Log + Drop> ServerState<L> {
 
         // The store stands for its history by the accounts that the state then has.
         ensures stands { (opening : ServerSeen) (history unanswered : List OneMove) →
-            StandsFor (arc_value self.old.config) opening self.old.recorder.counts self.old.recorder.table.items L.tears self.old.recorder.end
+            StandsFor (arc_value self.old.recorder.config) opening L.tears self.old.recorder.end
             (L.seen self.old.recorder.log) (L.may_leave self.old.recorder.log) self.old.recorder.whole
             self.old.recorder.books history unanswered →
-            StandsFor (arc_value self.new.config) opening self.new.recorder.counts self.new.recorder.table.items L.tears self.new.recorder.end
+            StandsFor (arc_value self.new.recorder.config) opening L.tears self.new.recorder.end
             (L.seen self.new.recorder.log) (L.may_leave self.new.recorder.log) self.new.recorder.whole
             self.new.recorder.books history unanswered }
     {
-        let goes_on = has_same_table(&*self.config, &*config);
+        let goes_on = has_same_table(self.accounts(), &*config);
         if goes_on {
-            self.config = config;
+            self.recorder.take_accounts(config);
             true
         } else {
             false
@@ -420,26 +411,18 @@ impl<L: Log + Drop> ServerState<L> {
 
     /// Goes on in a generation that was begun with other accounts, and hands out the store of the former
     /// ones.
-    pub(crate) fn enter(
-        &mut self,
-        opening: Opening<L>,
-        key: LogKey,
-        config: Arc<Config>,
-    ) -> Store<L>
+    pub(crate) fn enter(&mut self, opening: Opening<L>, key: LogKey) -> Store<L>
         requires synced { opening.synced.generation ≡ opening.store.header.generation }
-        requires server { IsServerOf (arc_value config) opening.store.books }
-        requires table { opening.store.table.items ≡ octets_of (arc_value config) }
+        requires server { IsServerOf (arc_value opening.store.config) opening.store.books }
         requires kept { key.generation ≡ opening.store.header.generation }
         ensures recorder { self.new.recorder ≡ opening.store }
         ensures key { self.new.key ≡ key }
-        ensures config { self.new.config ≡ config }
         ensures moves { self.new.moves ≡ 0 }
         ensures ended { self.new.has_ended ≡ self.old.has_ended }
         ensures failed { self.new.has_failed ≡ self.old.has_failed }
         ensures former { result ≡ self.old.recorder }
     {
         let Opening { store, .. } = opening;
-        self.config = config;
         self.key = key;
         self.moves = 0;
         mem::replace(&mut self.recorder, store)

@@ -11,7 +11,7 @@ use Rattle.rld_log.proofs.Callers.{frame_shape, frames_more, parts_of}
 use Rattle.rld_spelling.specs.Moves.{moves_field}
 use Rattle.rld_spelling.specs.declared.header.Header.{Header}
 use Rattle.rld_spelling.specs.declared.moves.Counts.{Counts}
-use Rattle.rld_store.specs.Generations.{AreBatches, AreOfHistory, IsGeneration, counts_of, moves_in, octets_of}
+use Rattle.rld_store.specs.Generations.{AreBatches, AreOfHistory, IsGeneration, counts_of, moves_in}
 
 -- ---- lists
 
@@ -58,15 +58,15 @@ batches_more counts moves batch payloads payload so fit is = record {
       ∙ sym (map-append (moves_field counts).spell so.batches (batch ∷ []));
 }
 
-generation_more : (counts : Counts) (table : List ℕ) (header : Header) (begun : ServerSeen) (moves batch : List Move) (payloads : List (List ℕ)) (payload : List ℕ)
-    → IsGeneration counts table header begun moves payloads → (moves_field counts).Fits batch → payload ≡ (moves_field counts).spell batch
-    → IsGeneration counts table header begun (moves ++ batch) (payloads ++ payload ∷ [])
-generation_more counts table header begun moves batch payloads payload so fit is = record {
+generation_more : (config : Configuration) (header : Header) (begun : ServerSeen) (moves batch : List Move) (payloads : List (List ℕ)) (payload : List ℕ)
+    → IsGeneration config header begun moves payloads → (moves_field (counts_of config)).Fits batch → payload ≡ (moves_field (counts_of config)).spell batch
+    → IsGeneration config header begun (moves ++ batch) (payloads ++ payload ∷ [])
+generation_more config header begun moves batch payloads payload so fit is = record {
   header_fits = so.header_fits;
   snapshot = so.snapshot;
   snapshot_is = so.snapshot_is;
   batches = so.batches ++ payload ∷ [];
-  batches_are = batches_more counts moves batch so.batches payload so.batches_are fit is;
+  batches_are = batches_more (counts_of config) moves batch so.batches payload so.batches_are fit is;
   payloads_are = ap (λ (l : List (List ℕ)). l ++ payload ∷ []) so.payloads_are;
 }
 
@@ -78,5 +78,5 @@ history_more config opening history batch payloads payload so fit is = record {
   earlier = so.earlier;
   moves = so.moves ++ batch;
   are = ap (λ (l : List Move). l ++ batch) so.are ∙ append_assoc so.earlier so.moves batch;
-  generation = generation_more (counts_of config) (octets_of config) so.header (replay opening so.earlier) so.moves batch payloads payload so.generation fit is;
+  generation = generation_more config so.header (replay opening so.earlier) so.moves batch payloads payload so.generation fit is;
 }

@@ -2,3 +2,5 @@
 
 -- what a crash leaves of the log of a store that stands for a history
 pub use Rattle.rld_store.proofs.Standing.{crashes_lose}
+-- books of accounts are of any accounts with the same table
+pub use Rattle.rld_store.proofs.SameTable.{still_server}

@@ -20,7 +20,7 @@ use Rattle.rld_spelling.specs.Books.{BookSeen, book_field, book_octets, book_see
 use Rattle.rld_spelling.specs.declared.header.Header.{Header}
 use Rattle.rld_spelling.specs.declared.moves.Counts.{Counts}
 use Rattle.rld_store.specs.Beginning.{HasAtMostOne, IsBegun, IsFront}
-use Rattle.rld_store.specs.Generations.{AreOfHistory, HasGeneration, HasHistory, HasHistoryOr, IsGeneration, IsSnapshot, IsUnbegun, StandForHistory, counts_of, octets_of}
+use Rattle.rld_store.specs.Generations.{AreOfHistory, HasGeneration, HasHistory, HasHistoryOr, IsGeneration, IsSnapshot, IsUnbegun, StandForHistory, counts_of}
 use Rattle.rld_spelling.specs.Moves.{move_field, moves_field}
 use Rattle.rld_store.specs.Standing.{StandsFor}
 use Rattle.rld_store.specs.declared.store.End.TheVariants.{Settled}
@@ -83,9 +83,9 @@ front_size first second front whole short_first short_second one two =
     let none : length (frames []) ≡ 0 = refl in
     omega (arith, one, two, none, size_more [] first short_first, size_more (first ∷ []) second short_second)
 
-front_generation : (counts : Counts) (table : List ℕ) (header : Header) (begun : ServerSeen) (first second : List ℕ) (whole : ℕ) → IsFront counts table header begun first second whole
-    → IsGeneration counts table header begun [] (first ∷ second ∷ [])
-front_generation counts table header begun first second whole front = record {
+front_generation : (config : Configuration) (header : Header) (begun : ServerSeen) (first second : List ℕ) (whole : ℕ) → IsFront config header begun first second whole
+    → IsGeneration config header begun [] (first ∷ second ∷ [])
+front_generation config header begun first second whole front = record {
   header_fits = front.header_fits;
   snapshot = second;
   snapshot_is = front.snapshot_is;
@@ -94,34 +94,34 @@ front_generation counts table header begun first second whole front = record {
   payloads_are = ap (λ (f : List ℕ). f ∷ second ∷ []) front.header_is;
 }
 
-pub begun : (counts : Counts) (table : List ℕ) (header : Header) (books : ServerSeen) (first second : List ℕ) (whole : ℕ) (seen : List ℕ) (may_leave : Ending → List ℕ → Type 0)
-    → IsFront counts table header books first second whole → IsSettled seen may_leave (first ∷ second ∷ []) → IsBegun counts table header books seen may_leave whole
-begun counts table header books first second whole seen may_leave front settled = record {
+pub begun : (config : Configuration) (header : Header) (books : ServerSeen) (first second : List ℕ) (whole : ℕ) (seen : List ℕ) (may_leave : Ending → List ℕ → Type 0)
+    → IsFront config header books first second whole → IsSettled seen may_leave (first ∷ second ∷ []) → IsBegun config header books seen may_leave whole
+begun config header books first second whole seen may_leave front settled = record {
   payloads = first ∷ second ∷ [];
-  generation = front_generation counts table header books first second whole front;
+  generation = front_generation config header books first second whole front;
   settled = settled;
   size = front.size;
 }
 
 -- what a crash leaves as a generation begins
-pub begun_or_not : (counts : Counts) (table : List ℕ) (header : Header) (books : ServerSeen) (first second : List ℕ) (whole : ℕ) (left : List ℕ) → IsFront counts table header books first second whole
-    → HasAtMostOne first left ⊎ HasPayloads left (first ∷ second ∷ []) → IsUnbegun left ⊎ HasGeneration counts table header books [] left
-begun_or_not counts table header books first second whole left front (inl (inl none)) = inl (record { payloads = []; has = none; few = omega arith })
-begun_or_not counts table header books first second whole left front (inl (inr one)) = inl (record { payloads = first ∷ []; has = one; few = omega arith })
-begun_or_not counts table header books first second whole left front (inr both) =
-    inr (record { payloads = first ∷ second ∷ []; has = both; generation = front_generation counts table header books first second whole front })
+pub begun_or_not : (config : Configuration) (header : Header) (books : ServerSeen) (first second : List ℕ) (whole : ℕ) (left : List ℕ) → IsFront config header books first second whole
+    → HasAtMostOne first left ⊎ HasPayloads left (first ∷ second ∷ []) → IsUnbegun left ⊎ HasGeneration config header books [] left
+begun_or_not config header books first second whole left front (inl (inl none)) = inl (record { payloads = []; has = none; few = omega arith })
+begun_or_not config header books first second whole left front (inl (inr one)) = inl (record { payloads = first ∷ []; has = one; few = omega arith })
+begun_or_not config header books first second whole left front (inr both) =
+    inr (record { payloads = first ∷ second ∷ []; has = both; generation = front_generation config header books first second whole front })
 
 -- the same of octets that are those of the front
-pub front_or_not : (counts : Counts) (table : List ℕ) (header : Header) (books : ServerSeen) (first second one two : List ℕ) (whole : ℕ) (left : List ℕ) → one ≡ first → two ≡ second → IsFront counts table header books first second whole
-    → HasAtMostOne one left ⊎ HasPayloads left (one ∷ two ∷ []) → IsUnbegun left ⊎ HasGeneration counts table header books [] left
-front_or_not counts table header books first second one two whole left same other front ways =
-    begun_or_not counts table header books first second whole left front
+pub front_or_not : (config : Configuration) (header : Header) (books : ServerSeen) (first second one two : List ℕ) (whole : ℕ) (left : List ℕ) → one ≡ first → two ≡ second → IsFront config header books first second whole
+    → HasAtMostOne one left ⊎ HasPayloads left (one ∷ two ∷ []) → IsUnbegun left ⊎ HasGeneration config header books [] left
+front_or_not config header books first second one two whole left same other front ways =
+    begun_or_not config header books first second whole left front
     (subst (λ (f : List ℕ). HasAtMostOne f left ⊎ HasPayloads left (f ∷ second ∷ [])) same (subst (λ (f : List ℕ). HasAtMostOne one left ⊎ HasPayloads left (one ∷ f ∷ [])) other ways))
 
-pub front_begun : (counts : Counts) (table : List ℕ) (header : Header) (books : ServerSeen) (first second one two : List ℕ) (whole : ℕ) (seen : List ℕ) (may_leave : Ending → List ℕ → Type 0) → one ≡ first → two ≡ second
-    → IsFront counts table header books first second whole → IsSettled seen may_leave (one ∷ two ∷ []) → IsBegun counts table header books seen may_leave whole
-front_begun counts table header books first second one two whole seen may_leave same other front settled =
-    begun counts table header books first second whole seen may_leave front
+pub front_begun : (config : Configuration) (header : Header) (books : ServerSeen) (first second one two : List ℕ) (whole : ℕ) (seen : List ℕ) (may_leave : Ending → List ℕ → Type 0) → one ≡ first → two ≡ second
+    → IsFront config header books first second whole → IsSettled seen may_leave (one ∷ two ∷ []) → IsBegun config header books seen may_leave whole
+front_begun config header books first second one two whole seen may_leave same other front settled =
+    begun config header books first second whole seen may_leave front
     (subst (λ (f : List ℕ). IsSettled seen may_leave (f ∷ second ∷ [])) same (subst (λ (f : List ℕ). IsSettled seen may_leave (one ∷ f ∷ [])) other settled))
 
 -- what a crash leaves as the second of two payloads is recorded
@@ -150,31 +150,29 @@ no_moves_fit counts = (omega arith, All-nil (move_field counts).Fits)
 -- ---- the history of a generation that begins
 
 begun_history : (config : Configuration) (opening : ServerSeen) (header : Header) (books : ServerSeen) (history : List Move) (payloads : List (List ℕ)) → IsServerOf config opening → books ≡ replay opening history
-    → IsGeneration (counts_of config) (octets_of config) header books [] payloads → AreOfHistory config opening history payloads
+    → IsGeneration config header books [] payloads → AreOfHistory config opening history payloads
 begun_history config opening header books history payloads of are generation = record {
   opening_is = of;
   header = header;
   earlier = history;
   moves = [];
   are = sym (append-nil history);
-  generation = subst (λ (b : ServerSeen). IsGeneration (counts_of config) (octets_of config) header b [] payloads) are generation;
+  generation = subst (λ (b : ServerSeen). IsGeneration config header b [] payloads) are generation;
 }
 
 pub begun_of : (config : Configuration) (opening : ServerSeen) (header : Header) (books : ServerSeen) (history : List Move) (left : List ℕ) → IsServerOf config opening → books ≡ replay opening history
-    → IsUnbegun left ⊎ HasGeneration (counts_of config) (octets_of config) header books [] left → IsUnbegun left ⊎ HasHistory config opening history left
+    → IsUnbegun left ⊎ HasGeneration config header books [] left → IsUnbegun left ⊎ HasHistory config opening history left
 begun_of config opening header books history left of are (inl none) = inl none
 begun_of config opening header books history left of are (inr has) =
     inr (record { payloads = has.payloads; has = has.has; are = begun_history config opening header books history has.payloads of are has.generation })
 
-pub begun_stands : (config : Configuration) (opening : ServerSeen) (counts : Counts) (table : List ℕ) (tears : List ℕ → List ℕ → Type 0) (header : Header) (seen : List ℕ) (may_leave : Ending → List ℕ → Type 0) (whole : ℕ) (books : ServerSeen) (history : List Move)
-    → IsServerOf config opening → counts ≡ counts_of config → table ≡ octets_of config → IsBegun counts table header books seen may_leave whole → books ≡ replay opening history
-    → StandsFor config opening counts table tears Settled seen may_leave whole books history []
-begun_stands config opening counts table tears header seen may_leave whole books history of counted tabled so are = record {
-  counts_are = counted;
-  table_is = tabled;
+pub begun_stands : (config : Configuration) (opening : ServerSeen) (tears : List ℕ → List ℕ → Type 0) (header : Header) (seen : List ℕ) (may_leave : Ending → List ℕ → Type 0) (whole : ℕ) (books : ServerSeen) (history : List Move)
+    → IsServerOf config opening → IsBegun config header books seen may_leave whole → books ≡ replay opening history
+    → StandsFor config opening tears Settled seen may_leave whole books history []
+begun_stands config opening tears header seen may_leave whole books history of so are = record {
   payloads = so.payloads;
-  are = begun_history config opening header books history so.payloads of are (subst (λ (t : List ℕ). IsGeneration (counts_of config) t header books [] so.payloads) tabled (subst (λ (c : Counts). IsGeneration c table header books [] so.payloads) counted so.generation));
-  unanswered_fits = no_moves_fit counts;
+  are = begun_history config opening header books history so.payloads of are so.generation;
+  unanswered_fits = no_moves_fit (counts_of config);
   size = so.size;
   ends = so.settled;
   replayed = are;

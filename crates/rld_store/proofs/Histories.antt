@@ -9,8 +9,7 @@ use Rattle.rld_log.specs.Recording.{IsBeforeOrAfter, IsSettled, LeavesEither}
 use Rattle.rld_log.specs.declared.log.Ending.{Ending}
 use Rattle.rld_log.proofs.Callers.{ends_so, have_one_reading}
 use Rattle.rld_spelling.specs.declared.header.Header.{Header}
-use Rattle.rld_spelling.specs.declared.moves.Counts.{Counts}
-use Rattle.rld_store.specs.Generations.{HasHistory, counts_of, octets_of}
+use Rattle.rld_store.specs.Generations.{HasHistory, counts_of}
 use Rattle.rld_store.specs.Opening.{IsFoundIn}
 use Rattle.rld_store.specs.Standing.{StandsFor}
 use Rattle.rld_store.specs.declared.store.End.TheVariants.{Settled}
@@ -49,15 +48,13 @@ ends_whole file octets len before is ends has = ends_so file len (subst (λ (f :
 
 -- ---- the history of a log that was opened
 
-pub opened_stands : (config : Configuration) (opening : ServerSeen) (counts : Counts) (table : List ℕ) (tears : List ℕ → List ℕ → Type 0) (file seen : List ℕ) (may_leave : Ending → List ℕ → Type 0) (whole : ℕ) (header : Header) (books : ServerSeen) (count : ℕ) (history : List Move)
-    → counts ≡ counts_of config → table ≡ octets_of config → (has : HasHistory config opening history file) → IsFoundIn config has.payloads header books count → whole ≡ length (frames has.payloads) → IsSettled seen may_leave has.payloads
-    → StandsFor config opening counts table tears Settled seen may_leave whole books history []
-opened_stands config opening counts table tears file seen may_leave whole header books count history counted tabled has found size settled = record {
-  counts_are = counted;
-  table_is = tabled;
+pub opened_stands : (config : Configuration) (opening : ServerSeen) (tears : List ℕ → List ℕ → Type 0) (file seen : List ℕ) (may_leave : Ending → List ℕ → Type 0) (whole : ℕ) (header : Header) (books : ServerSeen) (count : ℕ) (history : List Move)
+    → (has : HasHistory config opening history file) → IsFoundIn config has.payloads header books count → whole ≡ length (frames has.payloads) → IsSettled seen may_leave has.payloads
+    → StandsFor config opening tears Settled seen may_leave whole books history []
+opened_stands config opening tears file seen may_leave whole header books count history has found size settled = record {
   payloads = has.payloads;
   are = has.are;
-  unanswered_fits = no_moves_fit counts;
+  unanswered_fits = no_moves_fit (counts_of config);
   size = size;
   ends = settled;
   replayed = (found has.are.header (replay opening has.are.earlier) has.are.moves (begun_is_of config opening has.are.earlier has.are.opening_is) has.are.generation).books_are

@@ -4,5 +4,6 @@ pub mod Deciding
 pub mod Fronts
 pub mod Histories
 pub mod Replaying
+pub mod SameTable
 pub mod Standing
 pub mod States

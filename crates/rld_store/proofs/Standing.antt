@@ -1,5 +1,5 @@
 -- A store stands for a history, before and after each call.
-use Rattle.std.proofs.Common.{◌≡◌, inl, inr, ℕ, ◌+◌, List, [], ◌∷◌, ◌++◌, length, sym, ap, subst, ◌∙◌, arith}
+use Rattle.std.proofs.Common.{◌≡◌, inl, inr, ℕ, ◌+◌, List, [], ◌∷◌, ◌++◌, length, refl, sym, ap, subst, ◌∙◌, arith}
 use Rattle.rsl_accounts.specs.Configuration.{Configuration}
 use Rattle.rsl_shard.specs.declared.moved.Move.{Move}
 use Rattle.rld_books.specs.Server.{ServerSeen, replay}
@@ -9,8 +9,7 @@ use Rattle.rld_log.specs.Recording.{IsBeforeOrAfter, LeavesEither}
 use Rattle.rld_log.specs.declared.log.Ending.{Ending}
 use Rattle.rld_log.proofs.Callers.{whole_has}
 use Rattle.rld_spelling.specs.Moves.{moves_field}
-use Rattle.rld_spelling.specs.declared.moves.Counts.{Counts}
-use Rattle.rld_store.specs.Generations.{HasHistoryOr}
+use Rattle.rld_store.specs.Generations.{HasHistoryOr, counts_of}
 use Rattle.rld_store.specs.Standing.{EndsSo, IsUnsettled, LosesNothing, StandsFor}
 use Rattle.rld_store.specs.declared.store.End.{End}
 use Rattle.rld_store.specs.declared.store.End.TheVariants.{Settled, Unsettled}
@@ -32,37 +31,32 @@ still_unsettled tears seen new old may_leave payloads unanswered so front leaves
 
 module _ (config : Configuration) (opening : ServerSeen) (tears : List ℕ → List ℕ → Type 0) where
   -- a call that recorded a batch and made it
-  pub stands_more : (counts same_counts : Counts) (table same_table : List ℕ) (end : End) (seen new : List ℕ) (old may_leave : Ending → List ℕ → Type 0) (whole size : ℕ) (books made : ServerSeen) (history unanswered batch : List Move) (payload : List ℕ)
-      → StandsFor config opening counts table tears end seen old whole books history unanswered → same_counts ≡ counts → same_table ≡ table → Fits payload → size ≡ whole + (20 + length payload) → made ≡ replay books batch
-      → payload ≡ (moves_field counts).spell batch → (moves_field counts).Fits batch
+  pub stands_more : (end : End) (seen new : List ℕ) (old may_leave : Ending → List ℕ → Type 0) (whole size : ℕ) (books made : ServerSeen) (history unanswered batch : List Move) (payload : List ℕ)
+      → StandsFor config opening tears end seen old whole books history unanswered → Fits payload → size ≡ whole + (20 + length payload) → made ≡ replay books batch
+      → payload ≡ (moves_field (counts_of config)).spell batch → (moves_field (counts_of config)).Fits batch
       → ((before : List (List ℕ)) (other : List ℕ) → whole ≡ length (frames before) → EndsSo end tears seen old before other → EndsSo Settled tears new may_leave (before ++ payload ∷ []) payload)
-      → StandsFor config opening same_counts same_table tears Settled new may_leave size made (history ++ batch) batch
-  stands_more counts same_counts table same_table end seen new old may_leave whole size books made history unanswered batch payload so counted tabled short size_is made_is is fit ends =
-      subst (λ (t : List ℕ). StandsFor config opening same_counts t tears Settled new may_leave size made (history ++ batch) batch) (sym tabled)
-      (subst (λ (c : Counts). StandsFor config opening c table tears Settled new may_leave size made (history ++ batch) batch) (sym counted) (record {
-        counts_are = so.counts_are;
-        table_is = so.table_is;
-        payloads = so.payloads ++ payload ∷ [];
-        are = history_more config opening history batch so.payloads payload so.are (subst (λ (c : Counts). (moves_field c).Fits batch) so.counts_are fit) (is ∙ ap (λ (c : Counts). (moves_field c).spell batch) so.counts_are);
-        unanswered_fits = fit;
-        size = omega (arith, size_is, so.size, size_more so.payloads payload short);
-        ends = ends so.payloads ((moves_field counts).spell unanswered) so.size so.ends;
-        replayed = made_is ∙ ap (λ (b : ServerSeen). replay b batch) so.replayed ∙ sym (replay_more opening history batch);
-      }))
+      → StandsFor config opening tears Settled new may_leave size made (history ++ batch) batch
+  stands_more end seen new old may_leave whole size books made history unanswered batch payload so short size_is made_is is fit ends = record {
+    payloads = so.payloads ++ payload ∷ [];
+    are = history_more config opening history batch so.payloads payload so.are fit is;
+    unanswered_fits = fit;
+    size = omega (arith, size_is, so.size, size_more so.payloads payload short);
+    ends = subst (λ (p : List ℕ). EndsSo Settled tears new may_leave (so.payloads ++ payload ∷ []) p) is (ends so.payloads ((moves_field (counts_of config)).spell unanswered) so.size so.ends);
+    replayed = made_is ∙ ap (λ (b : ServerSeen). replay b batch) so.replayed ∙ sym (replay_more opening history batch);
+  }
 
 -- what a crash leaves
-pub crashes_lose : (config : Configuration) (opening : ServerSeen) (counts : Counts) (table : List ℕ) (tears : List ℕ → List ℕ → Type 0) (end : End) (seen : List ℕ) (may_leave : Ending → List ℕ → Type 0) (whole : ℕ) (books : ServerSeen) (history unanswered : List Move)
-    → StandsFor config opening counts table tears end seen may_leave whole books history unanswered → LosesNothing config opening tears may_leave history unanswered
-crashes_lose config opening counts table tears Settled seen may_leave whole books history unanswered so ending premise left reached =
+pub crashes_lose : (config : Configuration) (opening : ServerSeen) (tears : List ℕ → List ℕ → Type 0) (end : End) (seen : List ℕ) (may_leave : Ending → List ℕ → Type 0) (whole : ℕ) (books : ServerSeen) (history unanswered : List Move)
+    → StandsFor config opening tears end seen may_leave whole books history unanswered → LosesNothing config opening tears may_leave history unanswered
+crashes_lose config opening tears Settled seen may_leave whole books history unanswered so ending premise left reached =
     inl (record { payloads = so.payloads; has = whole_has left so.payloads so.ends.fit (so.ends.durable ending left reached ∙ so.ends.whole); are = so.are })
-crashes_lose config opening counts table tears Unsettled seen may_leave whole books history unanswered so ending premise left reached =
+crashes_lose config opening tears Unsettled seen may_leave whole books history unanswered so ending premise left reached =
     by (so.ends.left ending premise left reached)
   where
-    by : IsBeforeOrAfter so.payloads ((moves_field counts).spell unanswered) left → HasHistoryOr config opening history unanswered left
+    by : IsBeforeOrAfter so.payloads ((moves_field (counts_of config)).spell unanswered) left → HasHistoryOr config opening history unanswered left
     by (inl has) = inl (record { payloads = so.payloads; has = has; are = so.are })
     by (inr has) = inr (record {
-      payloads = so.payloads ++ (moves_field counts).spell unanswered ∷ [];
+      payloads = so.payloads ++ (moves_field (counts_of config)).spell unanswered ∷ [];
       has = has;
-      are = history_more config opening history unanswered so.payloads ((moves_field counts).spell unanswered) so.are
-          (subst (λ (c : Counts). (moves_field c).Fits unanswered) so.counts_are so.unanswered_fits) (ap (λ (c : Counts). (moves_field c).spell unanswered) so.counts_are);
+      are = history_more config opening history unanswered so.payloads ((moves_field (counts_of config)).spell unanswered) so.are so.unanswered_fits refl;
     })

@@ -59,16 +59,16 @@ pub record AreBatches (counts : Counts) (moves : List Move) (payloads : List (Li
   pub fit : AllByRecursion (moves_field counts).Fits batches
   pub spelled : payloads ≡ map (moves_field counts).spell batches
 
--- the payloads of a generation with this table that began with these books, with the moves that
+-- the payloads of a generation of these accounts that began with these books, with the moves that
 -- followed
-pub record IsGeneration (counts : Counts) (table : List ℕ) (header : Header) (begun : ServerSeen)
+pub record IsGeneration (config : Configuration) (header : Header) (begun : ServerSeen)
     (moves : List Move) (payloads : List (List ℕ)) : Type 0 where
   pub header_fits : header_field.Fits header
   pub snapshot : List ℕ
-  pub snapshot_is : IsSnapshot counts begun snapshot
+  pub snapshot_is : IsSnapshot (counts_of config) begun snapshot
   pub batches : List (List ℕ)
-  pub batches_are : AreBatches counts moves batches
-  pub payloads_are : payloads ≡ front_octets header table ∷ snapshot ∷ batches
+  pub batches_are : AreBatches (counts_of config) moves batches
+  pub payloads_are : payloads ≡ front_octets header (octets_of config) ∷ snapshot ∷ batches
 
 -- The payloads of a generation of a history that opened with these books of a configuration: the books
 -- that it begins with are what the moves before it make of them. The first history opens with new books.
@@ -79,15 +79,14 @@ pub record AreOfHistory (config : Configuration) (opening : ServerSeen) (history
   pub earlier : List Move
   pub moves : List Move
   pub are : history ≡ earlier ++ moves
-  pub generation : IsGeneration (counts_of config) (octets_of config) header (replay opening earlier)
-      moves payloads
+  pub generation : IsGeneration config header (replay opening earlier) moves payloads
 
 -- a file of a generation
-pub record HasGeneration (counts : Counts) (table : List ℕ) (header : Header) (begun : ServerSeen)
+pub record HasGeneration (config : Configuration) (header : Header) (begun : ServerSeen)
     (moves : List Move) (file : List ℕ) : Type 0 where
   pub payloads : List (List ℕ)
   pub has : HasPayloads file payloads
-  pub generation : IsGeneration counts table header begun moves payloads
+  pub generation : IsGeneration config header begun moves payloads
 
 -- a file that stands for a history
 pub record HasHistory (config : Configuration) (opening : ServerSeen) (history : List Move)

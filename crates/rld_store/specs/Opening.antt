@@ -34,7 +34,7 @@ abbrev pub IsFoundIn : (config : Configuration) → (payloads : List (List ℕ))
     → (books : ServerSeen) → (count : ℕ) → Type 0
 IsFoundIn config payloads found_header books count =
     (header : Header) (begun : ServerSeen) (moves : List Move)
-    → IsServerOf config begun → IsGeneration (counts_of config) (octets_of config) header begun moves payloads
+    → IsServerOf config begun → IsGeneration config header begun moves payloads
     → IsFound begun moves header found_header books count
 
 -- there is a generation: the payloads are one, with this header, and these are the books after its
@@ -44,7 +44,7 @@ pub record IsThere (config : Configuration) (payloads : List (List ℕ)) (header
   pub begun : ServerSeen
   pub begun_is : IsServerOf config begun
   pub moves : List Move
-  pub generation : IsGeneration (counts_of config) (octets_of config) header begun moves payloads
+  pub generation : IsGeneration config header begun moves payloads
   pub books_are : books ≡ replay begun moves
   pub count_is : count ≡ length moves
 

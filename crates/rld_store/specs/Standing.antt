@@ -11,8 +11,7 @@ use Rattle.rld_store.specs.Premises.{Premise}
 use Rattle.rld_log.specs.Recording.{IsSettled, LeavesEither}
 use Rattle.rld_log.specs.declared.log.Ending.{Ending}
 use Rattle.rld_spelling.specs.Moves.{moves_field}
-use Rattle.rld_spelling.specs.declared.moves.Counts.{Counts}
-use Rattle.rld_store.specs.Generations.{AreOfHistory, HasHistoryOr, counts_of, octets_of}
+use Rattle.rld_store.specs.Generations.{AreOfHistory, HasHistoryOr, counts_of}
 use Rattle.rld_store.specs.declared.store.End.{End}
 use Rattle.rld_store.specs.declared.store.End.TheVariants.{Settled, Unsettled}
 
@@ -36,17 +35,16 @@ EndsSo Unsettled tears seen may_leave payloads unanswered =
 
 -- The log has a history, and at its end perhaps an unanswered batch; the books are what the history
 -- makes of those with which it opened.
-pub record StandsFor (config : Configuration) (opening : ServerSeen) (counts : Counts)
-    (table : List ℕ) (tears : List ℕ → List ℕ → Type 0) (end : End) (seen : List ℕ)
+pub record StandsFor (config : Configuration) (opening : ServerSeen)
+    (tears : List ℕ → List ℕ → Type 0) (end : End) (seen : List ℕ)
     (may_leave : Ending → List ℕ → Type 0) (whole : ℕ) (books : ServerSeen)
     (history unanswered : List Move) : Type 0 where
-  pub counts_are : counts ≡ counts_of config
-  pub table_is : table ≡ octets_of config
   pub payloads : List (List ℕ)
   pub are : AreOfHistory config opening history payloads
-  pub unanswered_fits : (moves_field counts).Fits unanswered
+  pub unanswered_fits : (moves_field (counts_of config)).Fits unanswered
   pub size : whole ≡ length (frames payloads)
-  pub ends : EndsSo end tears seen may_leave payloads ((moves_field counts).spell unanswered)
+  pub ends : EndsSo end tears seen may_leave payloads
+      ((moves_field (counts_of config)).spell unanswered)
   pub replayed : books ≡ replay opening history
 
 -- a crash leaves the history, or the history and the unanswered batch, whole

@@ -11,7 +11,7 @@ ghost use Rattle.rld_store.specs.Beginning.{HasAtMostOne, IsBegun, IsFront};
 ghost use Rattle.rld_store.specs.Generations.{HasGeneration, IsUnbegun, counts_of};
 
 use crate::fault::StoreFault;
-use rld_books::ServerBooks;
+use rld_books::{ServerBooks, table_octets};
 use rld_log::{HEAD_LEN, Log, LogFault, record};
 use rld_spelling::{Counts, Header, push_book, push_number};
 use rsl_accounts::Config;
@@ -67,23 +67,22 @@ struct Beginning {
     whole: usize,
 }
 
-/// The first payloads of a generation with the table of these octets that begins with these books.
+/// The first payloads of a generation of these accounts that begins with these books.
 fn beginning_of(
     alloc: Global,
     header: Header,
-    table: &[u8],
-    counts: Counts,
+    config: &Config,
     books: &ServerBooks,
 ) -> Result<Beginning, StoreFault>
     ensures { IfOk result (λ made.
-        IsFront counts table.now header books.now made.front.items made.snapshot.items made.whole) }
+        IsFront config.now header books.now made.front.items made.snapshot.items made.whole) }
 {
     header.has_spelling();
     let mut first = Vec::new(alloc);
     header.push(&mut first)?;
-    first.extend_from_slice(table)?;
+    first.extend_from_slice(&table_octets(alloc, config)?)?;
     let saved = books.save(alloc)?;
-    let second = snapshot_of(alloc, &saved, counts.clients)?;
+    let second = snapshot_of(alloc, &saved, config.clients())?;
     let Some(end) = whole_with(0, first.len()) else {
         return Err(StoreFault::TooLong);
     };
@@ -133,26 +132,25 @@ fn record_both<L: Log>(
     Ok(())
 }
 
-/// Begins a generation with the table of these octets and with these books in an empty log: writes its
-/// header with the table, and a snapshot, and syncs each. Gives the length of their frames.
+/// Begins a generation of these accounts, with these books, in an empty log: writes its header with
+/// their table, and a snapshot, and syncs each. Gives the length of their frames.
 pub(crate) fn begin_log<L: Log>(
     alloc: Global,
     log: &mut L,
     header: Header,
-    table: &[u8],
-    counts: Counts,
+    config: &Config,
     books: &ServerBooks,
 ) -> Result<usize, StoreFault>
     ensures told { IsTrue (L.tells log.new) → IsTrue (L.tells log.old) }
     ensures begun { IsTrue (L.tells log.new) → Only (L.seen log.old) (L.may_leave log.old) →
-        IfOk result (IsBegun counts table.now header books.now (L.seen log.new) (L.may_leave log.new)) }
+        IfOk result (IsBegun config.now header books.now (L.seen log.new) (L.may_leave log.new)) }
 
     // A crash at any call leaves no generation, or this one.
     ensures crash { IsTrue (L.tells log.new) → Only (L.seen log.old) (L.may_leave log.old) → L.seen log.old ≡ [] →
         (ending : OneEnding) → Premise L.tears ending → (left : List ℕ) → L.may_leave log.new ending left →
-        IsUnbegun left ⊎ HasGeneration counts table.now header books.now [] left }
+        IsUnbegun left ⊎ HasGeneration config.now header books.now [] left }
 {
-    let made = beginning_of(alloc, header, table, counts, books)?;
+    let made = beginning_of(alloc, header, config, books)?;
     check_empty(alloc, log)?;
     record_both(alloc, log, &made.front, &made.snapshot)?;
     Ok(made.whole)

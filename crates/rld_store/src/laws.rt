@@ -1,9 +1,9 @@
 //! Laws of generations. Each is the contract of a function that does nothing.
 
+ghost use Rattle.std.specs.Arc.{arc_value};
 ghost use Rattle.std.specs.Prelude.{List};
 ghost use Rattle.rld_store.specs.Laws.{FilesHaveOneState};
 ghost use Rattle.rld_store.specs.Standing.{LosesNothing, StandsFor};
-ghost use Rattle.rsl_accounts.specs.Configuration.{Configuration};
 ghost use Rattle.rld_books.specs.Server.{ServerSeen};
 ghost use Rattle.rsl_shard.specs.declared.moved.Move.{Move as OneMove};
 
@@ -14,10 +14,10 @@ use rld_log::Log;
 /// history and the unanswered batch, whole. For a loss of power the premise is that no torn write
 /// passes for a frame by chance; for a kill that is proved.
 pub fn crashes_lose_nothing<L: Log>(store: &Store<L>)
-    ensures { (config : Configuration) (opening : ServerSeen) (history unanswered : List OneMove) →
-        StandsFor config opening store.now.counts store.now.table.items L.tears store.now.end (L.seen store.now.log) (L.may_leave store.now.log)
+    ensures { (opening : ServerSeen) (history unanswered : List OneMove) →
+        StandsFor (arc_value store.now.config) opening L.tears store.now.end (L.seen store.now.log) (L.may_leave store.now.log)
         store.now.whole store.now.books history unanswered →
-        LosesNothing config opening L.tears (L.may_leave store.now.log) history unanswered }
+        LosesNothing (arc_value store.now.config) opening L.tears (L.may_leave store.now.log) history unanswered }
 {
     let _store = store;
 }

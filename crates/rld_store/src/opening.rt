@@ -43,7 +43,6 @@ pub fn read_frames<L: Log>(alloc: Global, log: &mut L) -> Result<Frames, StoreFa
 /// The generation of a log, and the length of its whole frames.
 fn generation_in(alloc: Global, config: &Config, frames: &Frames) -> Result<Restored, StoreFault>
     ensures server { IfOk result (λ restored. IsServerOf config.now restored.reading.books) }
-    ensures table { IfOk result (λ restored. restored.reading.table.items ≡ octets_of config.now) }
     ensures found { IfOk result (λ restored. (before : List (List ℕ)) → HasPayloads frames.now.octets.items before →
         IsFoundIn config.now before restored.reading.header restored.reading.books restored.reading.moves) }
     ensures there { IfOk result (λ restored. IsThereIn config.now frames.now.octets.items
@@ -72,7 +71,6 @@ pub(crate) fn restore<L: Log>(
     requires { IsTrue (L.tells log.old) → given.now.octets.items ≡ L.seen log.old }
     ensures told { IsTrue (L.tells log.new) → IsTrue (L.tells log.old) }
     ensures server { IfOk result (λ restored. IsServerOf config.now restored.reading.books) }
-    ensures table { IfOk result (λ restored. restored.reading.table.items ≡ octets_of config.now) }
 
     // What is found is what the frames have: they have a generation, and are the log's.
     ensures there { IfOk result (λ restored. IsThereIn config.now given.now.octets.items

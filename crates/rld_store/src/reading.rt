@@ -14,7 +14,7 @@ use crate::beginning::counts_in;
 use crate::fault::StoreFault;
 use crate::part::Part;
 use crate::parts::{Parts, payload_at};
-use rld_books::{ServerBooks, table_octets};
+use rld_books::{ServerBooks, is_table_of};
 use rld_spelling::{Counts, Header};
 use rsl_accounts::Config;
 use rsl_shard::Move;
@@ -25,8 +25,6 @@ use std::alloc::Global;
 pub(crate) struct Reading {
     /// The header.
     pub(crate) header: Header,
-    /// The octets of its table.
-    pub(crate) table: Vec<u8>,
     /// The books after its moves.
     pub(crate) books: ServerBooks,
     /// The number of its moves.
@@ -88,23 +86,18 @@ pub(crate) fn replay_each(
     Ok(count)
 }
 
-/// The octets of a configuration's table, which a generation has. `OtherTable` comes if it has another
-/// one.
-fn own_table(alloc: Global, config: &Config, found: Part<'_>) -> Result<Vec<u8>, StoreFault>
-    ensures own { IfOk result (λ own. own.items ≡ octets_of config.now) }
+/// Checks that a generation has the table of a configuration. `OtherTable` comes if it has another one.
+fn check_table(alloc: Global, config: &Config, found: Part<'_>) -> Result<(), StoreFault>
     ensures same { OnOk result (found.entry.payload.now ≡ octets_of config.now) }
     ensures why { IfErr result (IsWhyOther (octets_of config.now) found.entry.end found.entry.payload.now) }
 {
-    let own = match table_octets(alloc, config) {
-        Ok(own) => own,
-        Err(_) => return Err(StoreFault::NoMemory),
-    };
-    if found.payload != own.as_slice() {
-        return Err(StoreFault::OtherTable {
+    if is_table_of(alloc, config, found.payload)? {
+        Ok(())
+    } else {
+        Err(StoreFault::OtherTable {
             offset: found.begin(),
-        });
+        })
     }
-    Ok(own)
 }
 
 /// Reads the payloads of a generation, which has to have the configuration's table. `Unbegun` comes
@@ -115,7 +108,6 @@ pub(crate) fn read_generation(
     payloads: &[&[u8]],
 ) -> Result<Reading, StoreFault>
     ensures server { IfOk result (λ reading. IsServerOf config.now reading.books) }
-    ensures table { IfOk result (λ reading. reading.table.items ≡ octets_of config.now) }
     ensures found { IfOk result (λ reading. IsFoundIn config.now (map (λ payload. payload.now) payloads.now)
         reading.header reading.books reading.moves) }
     ensures there { IfOk result (λ reading. IsThere config.now (map (λ payload. payload.now) payloads.now)
@@ -131,10 +123,10 @@ pub(crate) fn read_generation(
         Ok(front) => front,
         Err(bad) => return Err(StoreFault::Malformed(bad)),
     };
-    let table = match own_table(alloc, config, front.table) {
-        Ok(table) => table,
+    match check_table(alloc, config, front.table) {
+        Ok(()) => {}
         Err(fault) => return Err(fault),
-    };
+    }
     let mut books = match parts.snapshot.books(alloc, config) {
         Ok(books) => books,
         Err(fault) => return Err(fault),
@@ -143,7 +135,6 @@ pub(crate) fn read_generation(
     match replay_each(alloc, counts, &mut books, parts.snapshot.end, parts.batches) {
         Ok(moves) => Ok(Reading {
             header: front.header,
-            table,
             books,
             moves,
         }),

@@ -1,4 +1,5 @@
 ghost use Rattle.std.specs.Prelude.{◌≡◌, ◌⊎◌, ◌+◌, ◌≤◌, ℕ, false, List, [], ◌∷◌, ◌++◌, length, drop, Err, IsTrue, IsErrOf, IfErr, IfOk, OnErr, OnOk};
+ghost use Rattle.std.specs.Arc.{arc_value};
 ghost use Rattle.std.specs.List.{All};
 ghost use Rattle.std.specs.Option.{option_map};
 ghost use Rattle.rld_books.specs.Saved.{IsServerOf, links_in, rows_in};
@@ -8,6 +9,7 @@ ghost use Rattle.rld_store.specs.Premises.{Only, Premise};
 ghost use Rattle.rld_log.specs.Recording.{IsSettled};
 ghost use Rattle.rld_log.specs.declared.log.Ending.{Ending as OneEnding};
 ghost use Rattle.rld_spelling.specs.Moves.{MoveFits, moves_field};
+ghost use Rattle.rld_spelling.specs.Tables.{table_of};
 ghost use Rattle.rld_store.specs.Beginning.{IsBegun};
 ghost use Rattle.rld_store.specs.Generations.{HasHistory, IsUnbegun, StandForHistory, counts_of, octets_of};
 ghost use Rattle.rld_store.specs.Opening.{IsFoundIn, IsThereIn, IsWhy, LeavesAsItWas};
@@ -15,7 +17,6 @@ ghost use Rattle.rld_store.specs.Recorded.{AreDecided, is_last};
 ghost use Rattle.rld_store.specs.Standing.{EndsSo, StandsFor};
 ghost use Rattle.rld_store.specs.Stored.{is_unsynced, record_fault};
 ghost use Rattle.rld_store.specs.declared.store.End.TheVariants.{Settled as settled, Unsettled as unsettled};
-ghost use Rattle.rsl_accounts.specs.Configuration.{Configuration};
 ghost use Rattle.rsl_session.specs.Saved.{saved_links};
 ghost use Rattle.rsl_shard.specs.declared.moved.Move.{Move as OneMove};
 
@@ -25,7 +26,7 @@ use crate::fault::{Refused, StoreFault};
 use crate::opening::{Restored, restore};
 use crate::reading::Reading;
 use crate::recorded::Recorded;
-use rld_books::{ServerBooks, table_octets};
+use rld_books::ServerBooks;
 use rld_log::{Frames, HEAD_LEN, Log, LogFault, leave_head, mend, record_in_place};
 use rld_spelling::{Counts, Header, SpellFault};
 use rsl_accounts::Config;
@@ -34,6 +35,7 @@ use rsl_shard::{Move, Row};
 use rsl_wire::NoMemory;
 use std::alloc::Global;
 use std::mem;
+use std::sync::Arc;
 
 /// What follows the whole frames of a log.
 #[derive(Clone, Copy)]
@@ -44,13 +46,13 @@ pub enum End {
     Unsettled,
 }
 
-/// The books of a server, and the log of their moves. It is over once a sync has failed.
+/// The accounts of a server, their books, and the log of their moves. It is over once a sync has
+/// failed.
 #[derive(Drop)]
 pub struct Store<L: Log> {
     pub(crate) log: L,
     pub(crate) header: Header,
-    pub(crate) counts: Counts,
-    pub(crate) table: Vec<u8>,
+    pub(crate) config: Arc<Config>,
     pub(crate) books: ServerBooks,
     pub(crate) whole: usize,
     pub(crate) end: End,
@@ -82,7 +84,7 @@ impl<L: Log> Store<L> {
     /// snapshot of new books, and syncs each. A log that is not empty is refused as `Occupied`.
     pub fn begin(
         alloc: Global,
-        config: &Config,
+        config: Arc<Config>,
         header: Header,
         log: L,
     ) -> Result<Store<L>, Refused<L>>
@@ -90,18 +92,18 @@ impl<L: Log> Store<L> {
         ensures refused { IfErr result (λ refused. IsTrue (L.tells refused.log) → IsTrue (L.tells log)) }
 
         ensures header { IfOk result (λ store. store.header ≡ header) }
-        ensures table { IfOk result (λ store. store.table.items ≡ octets_of config.now) }
+        ensures config { IfOk result (λ store. store.config ≡ config) }
         ensures over { IfOk result (λ store. store.is_over ≡ false) }
 
         // The log has this header and a snapshot of new books.
         ensures begun { IfOk result (λ store. IsTrue (L.tells store.log) →
             Only (L.seen log) (L.may_leave log) →
-            IsBegun store.counts store.table.items header (new_server config.now) (L.seen store.log) (L.may_leave store.log) store.whole) }
+            IsBegun (arc_value config) header (new_server (arc_value config)) (L.seen store.log) (L.may_leave store.log) store.whole) }
 
         // The store stands for a history of no moves.
         ensures stands { IfOk result (λ store. IsTrue (L.tells store.log) →
             Only (L.seen log) (L.may_leave log) →
-            StandsFor config.now (new_server config.now) store.counts store.table.items L.tears store.end
+            StandsFor (arc_value config) (new_server (arc_value config)) L.tears store.end
             (L.seen store.log) (L.may_leave store.log) store.whole store.books [] []) }
 
         // After a fault a crash leaves no generation, or one that stands for no moves.
@@ -109,9 +111,9 @@ impl<L: Log> Store<L> {
             Only (L.seen log) (L.may_leave log) → L.seen log ≡ [] →
             (ending : OneEnding) → Premise L.tears ending →
             (left : List ℕ) → L.may_leave refused.log ending left →
-            IsUnbegun left ⊎ HasHistory config.now (new_server config.now) [] left) }
+            IsUnbegun left ⊎ HasHistory (arc_value config) (new_server (arc_value config)) [] left) }
     {
-        match ServerBooks::new(alloc, config) {
+        match ServerBooks::new(alloc, &*config) {
             Ok(books) => Store::begin_with(alloc, config, header, books, log),
             Err(_) => Err(Refused {
                 log,
@@ -128,7 +130,7 @@ impl<L: Log> Store<L> {
     /// give them: else a later `open` refuses the log as `Misfit`.
     pub fn begin_with(
         alloc: Global,
-        config: &Config,
+        config: Arc<Config>,
         header: Header,
         books: ServerBooks,
         log: L,
@@ -137,48 +139,40 @@ impl<L: Log> Store<L> {
         ensures refused { IfErr result (λ refused. IsTrue (L.tells refused.log) → IsTrue (L.tells log)) }
         ensures books { IfOk result (λ store. store.books ≡ books) }
         ensures header { IfOk result (λ store. store.header ≡ header) }
-        ensures table { IfOk result (λ store. store.table.items ≡ octets_of config.now) }
+        ensures config { IfOk result (λ store. store.config ≡ config) }
         ensures over { IfOk result (λ store. store.is_over ≡ false) }
 
         // The log has this header and a snapshot of these books.
         ensures begun { IfOk result (λ store. IsTrue (L.tells store.log) →
             Only (L.seen log) (L.may_leave log) →
-            IsBegun store.counts store.table.items header books (L.seen store.log) (L.may_leave store.log) store.whole) }
+            IsBegun (arc_value config) header books (L.seen store.log) (L.may_leave store.log) store.whole) }
 
         // The store stands for a history of no moves after these books.
         ensures stands { IfOk result (λ store. IsTrue (L.tells store.log) →
-            Only (L.seen log) (L.may_leave log) → IsServerOf config.now books →
-            StandsFor config.now books store.counts store.table.items L.tears store.end (L.seen store.log) (L.may_leave store.log)
+            Only (L.seen log) (L.may_leave log) → IsServerOf (arc_value config) books →
+            StandsFor (arc_value config) books L.tears store.end (L.seen store.log) (L.may_leave store.log)
             store.whole store.books [] []) }
 
         // After a fault a crash leaves no generation, or one that stands for no moves after them.
         ensures crash { IfErr result (λ refused. IsTrue (L.tells refused.log) →
-            Only (L.seen log) (L.may_leave log) → L.seen log ≡ [] → IsServerOf config.now books →
+            Only (L.seen log) (L.may_leave log) → L.seen log ≡ [] → IsServerOf (arc_value config) books →
             (ending : OneEnding) → Premise L.tears ending →
             (left : List ℕ) → L.may_leave refused.log ending left →
-            IsUnbegun left ⊎ HasHistory config.now books [] left) }
+            IsUnbegun left ⊎ HasHistory (arc_value config) books [] left) }
     {
-        let counts = counts_in(config);
         let mut log = log;
-        match table_octets(alloc, config) {
-            Ok(table) => match begin_log(alloc, &mut log, header, &table, counts, &books) {
-                Ok(whole) => Ok(Store {
-                    log,
-                    header,
-                    counts,
-                    table,
-                    books,
-                    whole,
-                    end: End::Settled,
-                    is_over: false,
-                    buffer: Vec::new(alloc),
-                }),
-                Err(fault) => Err(Refused { log, fault }),
-            },
-            Err(_) => Err(Refused {
+        match begin_log(alloc, &mut log, header, &*config, &books) {
+            Ok(whole) => Ok(Store {
                 log,
-                fault: StoreFault::NoMemory,
+                header,
+                config,
+                books,
+                whole,
+                end: End::Settled,
+                is_over: false,
+                buffer: Vec::new(alloc),
             }),
+            Err(fault) => Err(Refused { log, fault }),
         }
     }
 
@@ -189,36 +183,36 @@ impl<L: Log> Store<L> {
     /// configuration, or whose snapshot or moves do not fit it, is refused by name and stays as it was.
     pub fn open(
         alloc: Global,
-        config: &Config,
+        config: Arc<Config>,
         log: L,
         frames: &Frames,
     ) -> Result<Opened<L>, Refused<L>>
         requires { IsTrue (L.tells log) → frames.now.octets.items ≡ L.seen log }
         ensures told { IfOk result (λ opened. IsTrue (L.tells opened.store.log) → IsTrue (L.tells log)) }
-        ensures server { IfOk result (λ opened. IsServerOf config.now opened.store.books) }
-        ensures table { IfOk result (λ opened. opened.store.table.items ≡ octets_of config.now) }
+        ensures config { IfOk result (λ opened. opened.store.config ≡ config) }
+        ensures server { IfOk result (λ opened. IsServerOf (arc_value config) opened.store.books) }
         ensures header { IfOk result (λ opened. opened.store.header ≡ opened.header) }
         ensures over { IfOk result (λ opened. opened.store.is_over ≡ false) }
         ensures refused { IfErr result (λ refused. IsTrue (L.tells refused.log) → IsTrue (L.tells log)) }
 
         // What was found is what the frames have, whatever the log tells.
         ensures given { IfOk result (λ opened. (before : List (List ℕ)) → HasPayloads frames.now.octets.items before →
-            IsFoundIn config.now before opened.header opened.store.books opened.moves) }
-        ensures there { IfOk result (λ opened. IsThereIn config.now frames.now.octets.items
+            IsFoundIn (arc_value config) before opened.header opened.store.books opened.moves) }
+        ensures there { IfOk result (λ opened. IsThereIn (arc_value config) frames.now.octets.items
             opened.header opened.store.books opened.moves) }
 
         // The store stands for the history of the log.
         ensures stands { IfOk result (λ opened. IsTrue (L.tells opened.store.log) →
             (opening : ServerSeen) (history : List OneMove) →
-            HasHistory config.now opening history (L.seen log) →
-            StandsFor config.now opening opened.store.counts opened.store.table.items L.tears opened.store.end
+            HasHistory (arc_value config) opening history (L.seen log) →
+            StandsFor (arc_value config) opening L.tears opened.store.end
             (L.seen opened.store.log) (L.may_leave opened.store.log)
             opened.store.whole opened.store.books history []) }
 
         // What was found: the generation's own header and moves, and the length of the torn end.
         ensures found { IfOk result (λ opened. IsTrue (L.tells opened.store.log) →
             (opening : ServerSeen) (history : List OneMove) →
-            (has : HasHistory config.now opening history (L.seen log)) →
+            (has : HasHistory (arc_value config) opening history (L.seen log)) →
             (opened.header ≡ has.are.header) × (opened.moves ≡ length has.are.moves)) }
         ensures torn { IfOk result (λ opened. IsTrue (L.tells opened.store.log) →
             length (L.seen log) ≡ opened.store.whole + opened.torn) }
@@ -227,18 +221,17 @@ impl<L: Log> Store<L> {
         ensures crash { IfErr result (λ refused. IsTrue (L.tells refused.log) →
             Only (L.seen log) (L.may_leave log) →
             (opening : ServerSeen) (history : List OneMove) →
-            HasHistory config.now opening history (L.seen log) →
+            HasHistory (arc_value config) opening history (L.seen log) →
             (ending : OneEnding) (left : List ℕ) → L.may_leave refused.log ending left →
-            HasHistory config.now opening history left) }
+            HasHistory (arc_value config) opening history left) }
         ensures why { IfErr result (λ refused. IsTrue (L.tells refused.log) →
-            IsWhy (counts_of config.now) (octets_of config.now) (L.seen log) refused.fault) }
+            IsWhy (counts_of (arc_value config)) (octets_of (arc_value config)) (L.seen log) refused.fault) }
         ensures untouched { IfErr result (λ refused. IsTrue (L.tells refused.log) →
             LeavesAsItWas refused.fault (L.seen log) (L.seen refused.log)
             (L.may_leave log) (L.may_leave refused.log)) }
     {
-        let counts = counts_in(config);
         let mut log = log;
-        match restore(alloc, config, &mut log, frames) {
+        match restore(alloc, &*config, &mut log, frames) {
             Ok(restored) => {
                 let Restored {
                     reading,
@@ -247,15 +240,13 @@ impl<L: Log> Store<L> {
                 } = restored;
                 let Reading {
                     header,
-                    table,
                     books,
                     moves,
                 } = reading;
                 let store = Store {
                     log,
                     header,
-                    counts,
-                    table,
+                    config,
                     books,
                     whole,
                     end: End::Settled,
@@ -281,8 +272,7 @@ impl<L: Log> Store<L> {
         ensures told { IsTrue (L.tells self.new.log) → IsTrue (L.tells self.old.log) }
         ensures books { self.new.books ≡ self.old.books }
         ensures header { self.new.header ≡ self.old.header }
-        ensures counts { self.new.counts ≡ self.old.counts }
-        ensures table { self.new.table ≡ self.old.table }
+        ensures config { self.new.config ≡ self.old.config }
         ensures whole { self.new.whole ≡ self.old.whole }
         ensures buffer { self.new.buffer.items ≡ self.old.buffer.items }
         ensures settled { OnOk result (self.new.end ≡ settled) }
@@ -314,8 +304,7 @@ impl<L: Log> Store<L> {
         ensures told { IsTrue (L.tells self.new.log) → IsTrue (L.tells self.old.log) }
         ensures books { self.new.books ≡ self.old.books }
         ensures header { self.new.header ≡ self.old.header }
-        ensures counts { self.new.counts ≡ self.old.counts }
-        ensures table { self.new.table ≡ self.old.table }
+        ensures config { self.new.config ≡ self.old.config }
         ensures whole { OnOk result (self.new.whole ≡ whole) }
         ensures unadded { OnErr result (self.new.whole ≡ self.old.whole) }
         ensures settled { OnOk result (self.new.end ≡ settled) }
@@ -353,8 +342,7 @@ impl<L: Log> Store<L> {
     pub fn commit(&mut self, alloc: Global, batch: Vec<Move>) -> Result<Recorded, StoreFault>
         ensures told { IsTrue (L.tells self.new.log) → IsTrue (L.tells self.old.log) }
         ensures header { self.new.header ≡ self.old.header }
-        ensures counts { self.new.counts ≡ self.old.counts }
-        ensures table { self.new.table ≡ self.old.table }
+        ensures config { self.new.config ≡ self.old.config }
 
         // The decisions are those of the books at that point, and the books have made the moves.
         ensures batch { IfOk result (λ recorded. recorded.batch ≡ batch.items) }
@@ -367,14 +355,14 @@ impl<L: Log> Store<L> {
         ensures taken { OnOk result (AreTakenIn self.old.books batch.items) }
         ensures err { OnErr result (self.new.books ≡ self.old.books) }
         ensures unfit { IsErrOf result StoreFault.Unfit →
-            (AreTakenIn self.old.books batch.items → All (MoveFits self.old.counts) batch.items → ⊥) }
+            (AreTakenIn self.old.books batch.items → All (MoveFits (counts_of (arc_value self.old.config))) batch.items → ⊥) }
 
         // The log then has the history and the batch, synced.
         ensures recorded { IsTrue (L.tells self.new.log) →
-            (config : Configuration) (opening : ServerSeen) (history unanswered : List OneMove) →
-            StandsFor config opening self.old.counts self.old.table.items L.tears self.old.end (L.seen self.old.log) (L.may_leave self.old.log)
+            (opening : ServerSeen) (history unanswered : List OneMove) →
+            StandsFor (arc_value self.old.config) opening L.tears self.old.end (L.seen self.old.log) (L.may_leave self.old.log)
             self.old.whole self.old.books history unanswered → OnOk result
-            (StandsFor config opening self.new.counts self.new.table.items L.tears settled (L.seen self.new.log) (L.may_leave self.new.log)
+            (StandsFor (arc_value self.old.config) opening L.tears settled (L.seen self.new.log) (L.may_leave self.new.log)
             self.new.whole self.new.books (history ++ batch.items) batch.items) }
         ensures settled { OnOk result (self.new.end ≡ settled) }
         ensures over { self.old.is_over ≡ false → self.new.is_over ≡ is_unsynced result }
@@ -382,19 +370,19 @@ impl<L: Log> Store<L> {
         // After a fault the log has the history, and at its end perhaps an unanswered batch: this
         // one, or an earlier one.
         ensures left { IsTrue (L.tells self.new.log) →
-            (config : Configuration) (opening : ServerSeen) (history unanswered : List OneMove) →
-            StandsFor config opening self.old.counts self.old.table.items L.tears self.old.end (L.seen self.old.log) (L.may_leave self.old.log)
+            (opening : ServerSeen) (history unanswered : List OneMove) →
+            StandsFor (arc_value self.old.config) opening L.tears self.old.end (L.seen self.old.log) (L.may_leave self.old.log)
             self.old.whole self.old.books history unanswered → OnErr result
-            (StandsFor config opening self.new.counts self.new.table.items L.tears self.new.end (L.seen self.new.log) (L.may_leave self.new.log)
+            (StandsFor (arc_value self.old.config) opening L.tears self.new.end (L.seen self.new.log) (L.may_leave self.new.log)
             self.new.whole self.new.books history unanswered
-            ⊎ StandsFor config opening self.new.counts self.new.table.items L.tears self.new.end (L.seen self.new.log) (L.may_leave self.new.log)
+            ⊎ StandsFor (arc_value self.old.config) opening L.tears self.new.end (L.seen self.new.log) (L.may_leave self.new.log)
             self.new.whole self.new.books history batch.items) }
     {
         let decisions = Vec::with_capacity(alloc, batch.len())?;
         let whole = spell_batch(
             &mut self.buffer,
             &self.books,
-            self.counts,
+            counts_in(&*self.config),
             self.whole,
             &batch,
         )?;
@@ -416,8 +404,7 @@ impl<L: Log> Store<L> {
         ensures told { IsTrue (L.tells self.new.log) → OnOk result (IsTrue (L.tells next)) }
         ensures refused { IfErr result (λ refused. IsTrue (L.tells refused.log) → IsTrue (L.tells next)) }
         ensures books { self.new.books ≡ self.old.books }
-        ensures counts { self.new.counts ≡ self.old.counts }
-        ensures table { self.new.table ≡ self.old.table }
+        ensures config { self.new.config ≡ self.old.config }
         ensures older { IfOk result (λ older. older ≡ self.old.log) }
         ensures header { OnOk result (self.new.header ≡ header) }
         ensures over { self.new.is_over ≡ self.old.is_over }
@@ -425,35 +412,28 @@ impl<L: Log> Store<L> {
 
         // The next log has this header and a snapshot of the books.
         ensures begun { IsTrue (L.tells self.new.log) → Only (L.seen next) (L.may_leave next) → OnOk result
-            (IsBegun self.new.counts self.new.table.items header self.new.books (L.seen self.new.log) (L.may_leave self.new.log) self.new.whole) }
+            (IsBegun (arc_value self.new.config) header self.new.books (L.seen self.new.log) (L.may_leave self.new.log) self.new.whole) }
 
         // The store stands for the same history, by the next log alone.
         ensures stands { IsTrue (L.tells self.new.log) → Only (L.seen next) (L.may_leave next) →
-            (config : Configuration) (opening : ServerSeen) (history unanswered : List OneMove) →
-            StandsFor config opening self.old.counts self.old.table.items L.tears self.old.end (L.seen self.old.log) (L.may_leave self.old.log)
+            (opening : ServerSeen) (history unanswered : List OneMove) →
+            StandsFor (arc_value self.old.config) opening L.tears self.old.end (L.seen self.old.log) (L.may_leave self.old.log)
             self.old.whole self.old.books history unanswered → OnOk result
-            (StandsFor config opening self.new.counts self.new.table.items L.tears self.new.end (L.seen self.new.log) (L.may_leave self.new.log)
+            (StandsFor (arc_value self.old.config) opening L.tears self.new.end (L.seen self.new.log) (L.may_leave self.new.log)
             self.new.whole self.new.books history []) }
 
         // After a crash at any call the two logs together stand for it.
         ensures crash { IfErr result (λ refused. IsTrue (L.tells refused.log) → IsTrue (L.tells self.new.log) →
             Only (L.seen next) (L.may_leave next) → L.seen next ≡ [] →
-            (config : Configuration) (opening : ServerSeen) (history unanswered : List OneMove) →
-            StandsFor config opening self.old.counts self.old.table.items L.tears self.old.end (L.seen self.old.log) (L.may_leave self.old.log)
+            (opening : ServerSeen) (history unanswered : List OneMove) →
+            StandsFor (arc_value self.old.config) opening L.tears self.old.end (L.seen self.old.log) (L.may_leave self.old.log)
             self.old.whole self.old.books history unanswered →
             (ending : OneEnding) → Premise L.tears ending → (older newer : List ℕ) →
             L.may_leave self.new.log ending older → L.may_leave refused.log ending newer →
-            StandForHistory config opening history unanswered older newer) }
+            StandForHistory (arc_value self.old.config) opening history unanswered older newer) }
     {
         let mut next = next;
-        match begin_log(
-            alloc,
-            &mut next,
-            header,
-            &self.table,
-            self.counts,
-            &self.books,
-        ) {
+        match begin_log(alloc, &mut next, header, &*self.config, &self.books) {
             Ok(whole) => {
                 self.header = header;
                 self.whole = whole;
@@ -462,6 +442,29 @@ impl<L: Log> Store<L> {
             }
             Err(fault) => Err(Refused { log: next, fault }),
         }
+    }
+
+    // ---- other accounts of the same table
+
+    /// Goes on with accounts of the same table, whose passwords, secrets and replies may be others.
+    pub fn take_accounts(&mut self, config: Arc<Config>)
+        requires { table_of (arc_value self.old.config) ≡ table_of (arc_value config) }
+        ensures config { self.new.config ≡ config }
+        ensures log { self.new.log ≡ self.old.log }
+        ensures header { self.new.header ≡ self.old.header }
+        ensures books { self.new.books ≡ self.old.books }
+        ensures whole { self.new.whole ≡ self.old.whole }
+        ensures end { self.new.end ≡ self.old.end }
+        ensures over { self.new.is_over ≡ self.old.is_over }
+
+        // The store stands for the same history.
+        ensures stands { (opening : ServerSeen) (history unanswered : List OneMove) →
+            StandsFor (arc_value self.old.config) opening L.tears self.old.end (L.seen self.old.log) (L.may_leave self.old.log)
+            self.old.whole self.old.books history unanswered →
+            StandsFor (arc_value config) opening L.tears self.new.end (L.seen self.new.log) (L.may_leave self.new.log)
+            self.new.whole self.new.books history unanswered }
+    {
+        self.config = config;
     }
 
     // ---- look-ups
@@ -487,6 +490,13 @@ impl<L: Log> Store<L> {
         ensures { result.now ≡ self.now.books }
     {
         &self.books
+    }
+
+    /// The accounts, clients and rules of the books.
+    pub fn config(&self) -> &Arc<Config>
+        ensures { result.now ≡ self.now.config }
+    {
+        &self.config
     }
 
     /// The header of the log's generation.

@@ -10,6 +10,7 @@ use rsl_accounts::Config;
 use rsl_shard::{Line, Row};
 use std::alloc::Global;
 use std::process::Abort;
+use std::sync::Arc;
 use std::test::Fail;
 
 /// A life that answers all makes 33 calls of the disk: three open the log, and two record each of fifteen
@@ -43,7 +44,7 @@ const LAST_FRAME: usize = 65;
 /// nothing.
 #[derive(Drop)]
 struct Server {
-    config: Config,
+    config: Arc<Config>,
     run: Run,
     /// The octets of a log that has a generation of no moves yet.
     begun: Vec<u8>,
@@ -63,12 +64,12 @@ fn log_of(alloc: Global, octets: &[u8], lives: &[Life]) -> Result<MemoryLog, Fai
 }
 
 /// The octets of a log that has a generation of no moves yet.
-fn begun_of(alloc: Global, config: &Config) -> Result<Vec<u8>, Fail> {
+fn begun_of(alloc: Global, config: Arc<Config>) -> Result<Vec<u8>, Fail> {
     let log = begun(alloc, config)?;
     Ok(log.octets().to_vec(alloc)?)
 }
 
-fn begun(alloc: Global, config: &Config) -> Result<MemoryLog, Fail> {
+fn begun(alloc: Global, config: Arc<Config>) -> Result<MemoryLog, Fail> {
     match Store::begin(alloc, config, HEADER, log_of(alloc, &[], &[])?) {
         Ok(store) => Ok(store.into_log()),
         Err(_) => Err("not begun")?,
@@ -170,7 +171,7 @@ impl Server {
     fn new(alloc: Global) -> Result<Server, Fail> {
         let run = run_of(alloc)?;
         let config = config_of(alloc, "SHARDS = 3")?;
-        let begun = begun_of(alloc, &config)?;
+        let begun = begun_of(alloc, Arc::try_clone(&config)?)?;
         Ok(Server { config, run, begun })
     }
 
@@ -184,7 +185,7 @@ impl Server {
     fn moves_in(&self, alloc: Global, octets: &[u8]) -> Result<usize, Fail> {
         let mut log = log_of(alloc, octets, &[])?;
         let frames = read_frames(alloc, &mut log)?;
-        match Store::open(alloc, &self.config, log, &frames) {
+        match Store::open(alloc, Arc::try_clone(&self.config)?, log, &frames) {
             Ok(opened) => self.check_opened(alloc, &opened),
             Err(_) => Err("not opened")?,
         }
@@ -309,7 +310,7 @@ impl Server {
     fn moves_of_last(&self, alloc: Global, octets: &[u8]) -> Result<usize, Fail> {
         let mut log = log_of(alloc, octets, &[])?;
         let frames = read_frames(alloc, &mut log)?;
-        match Store::open(alloc, &self.config, log, &frames) {
+        match Store::open(alloc, Arc::try_clone(&self.config)?, log, &frames) {
             Ok(opened) if are_same_rows(&opened.store.rows(alloc)?, &self.run.rows) => Ok(
                 opened.moves,
             ),

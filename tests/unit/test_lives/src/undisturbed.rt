@@ -8,6 +8,7 @@ use rsl_shard::{Line, Move, Row, Segment, Shard};
 use rsl_steps::{Ran, Step, run};
 use rsl_wire::Octets;
 use std::alloc::Global;
+use std::sync::Arc;
 use std::test::Fail;
 use test_rows::{number, octets_of, replaced};
 
@@ -73,9 +74,10 @@ pub struct Run {
 }
 
 /// The configuration, where a line `SHARDS = NUMBER` says how many shards it has.
-pub fn config_of(alloc: Global, shards: &str) -> Result<Config, Fail> {
+pub fn config_of(alloc: Global, shards: &str) -> Result<Arc<Config>, Fail> {
     let text = replaced(alloc, FILE, shards)?;
-    Ok(read_config(alloc, &Dictionary::new(alloc), text.as_bytes())?)
+    let config = read_config(alloc, &Dictionary::new(alloc), text.as_bytes())?;
+    Ok(Arc::new(alloc, config)?)
 }
 
 /// The step of a line of what comes.
@@ -132,7 +134,7 @@ fn steps(alloc: Global) -> Result<Vec<Step>, Fail> {
 fn shard_of_run(alloc: Global) -> Result<Shard, Fail> {
     let steps = steps(alloc)?;
     let config = config_of(alloc, "SHARDS = 1")?;
-    let Ran { mut shards, .. } = run(alloc, &config, BOOT, &steps)?;
+    let Ran { mut shards, .. } = run(alloc, &*config, BOOT, &steps)?;
     match shards.pop() {
         Some(shard) => Ok(shard),
         None => Err("no shard")?,

@@ -8,13 +8,14 @@ use rsl_replay::steps_of;
 use rsl_script::Script;
 use rsl_steps::{Step, own};
 use std::alloc::Global;
+use std::sync::Arc;
 
 /// What a script gives.
 #[derive(Drop)]
 pub(crate) struct Given<'a> {
     text: &'a [u8],
     /// Its configuration.
-    pub config: Config,
+    pub config: Arc<Config>,
     /// The steps of its event lines.
     pub steps: Vec<Step>,
 }
@@ -24,7 +25,8 @@ impl<'a> Given<'a> {
     pub(crate) fn read(alloc: Global, text: &'a [u8]) -> Result<Given<'a>, Stop> {
         let script = Script::read(alloc, text)?;
         let config = Config::make(alloc, script.settings, script.clients, script.accounts)?;
-        let steps = steps_of(alloc, &config, BOOT, script.events.as_slice())?;
+        let config = Arc::new(alloc, config)?;
+        let steps = steps_of(alloc, &*config, BOOT, script.events.as_slice())?;
         Ok(Given {
             text,
             config,
@@ -45,7 +47,7 @@ impl<'a> Given<'a> {
 
     /// The own events of an account.
     pub(crate) fn events(&self, alloc: Global, account: u32) -> Result<Vec<Event>, Stop> {
-        Ok(own(alloc, &self.config, BOOT, account, &self.steps)?)
+        Ok(own(alloc, &*self.config, BOOT, account, &self.steps)?)
     }
 }
 

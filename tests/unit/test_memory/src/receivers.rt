@@ -71,7 +71,7 @@ fn live<L0: Tally, L1: Tally, L2: Tally, L3: Tally, R: Print + Wait>(
     let auth = counts_at(Port::Auth, page, &mut served)?;
     let acct = counts_at(Port::Acct, page, &mut served)?;
     let seen = served.seen(page)?;
-    served.end(page, &given.config)?;
+    served.end(page, &*given.config)?;
     Ok(Received {
         auth,
         acct,

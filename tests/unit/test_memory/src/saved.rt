@@ -18,7 +18,7 @@ const BOOKS: [usize; 3] = [4, 5, 7];
 /// Writes the moves of a script's first account, and its book as it is after each number of them in
 /// `BOOKS`. Reads all of it again, and tells what it is.
 pub(crate) fn tell<R: Print>(page: &mut Page<R>, given: &Given) -> Result<(), Stop> {
-    let config = &given.config;
+    let config = &*given.config;
     let counts = Counts {
         accounts: config.accounts(),
         clients: config.clients(),

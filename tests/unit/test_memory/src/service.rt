@@ -39,5 +39,5 @@ fn live<L0: Tally, L1: Tally, L2: Tally, L3: Tally, R: Print + Wait>(
         }
         ticks += 1;
     }
-    served.end(page, &given.config)
+    served.end(page, &*given.config)
 }

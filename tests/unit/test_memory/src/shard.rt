@@ -55,7 +55,7 @@ fn look_at(shard: &Shard) -> Result<Seen, Stop> {
 pub(crate) fn tell<R: Print>(page: &mut Page<R>, given: &Given) -> Result<(), Stop> {
     let alloc = page.alloc;
     let events = given.events(alloc, 0)?;
-    let mut shard = Shard::new(alloc, &given.config, 0)?;
+    let mut shard = Shard::new(alloc, &*given.config, 0)?;
     for (index, event) in events.iter().enumerate() {
         if index == events.len() / 2 {
             cut(page, &mut shard)?;

@@ -14,7 +14,7 @@ use std::alloc::Global;
 /// Has `run` answer the steps of a script, and tells all that is seen of it. Where a step is refused,
 /// the others have to be as without that step.
 pub(crate) fn tell<R: Print>(page: &mut Page<R>, given: &Given) -> Result<(), Stop> {
-    let (alloc, config) = (page.alloc, &given.config);
+    let (alloc, config) = (page.alloc, &*given.config);
     let ran = run(alloc, config, BOOT, &given.steps)?;
     if !ran.answers.contains(&Answer::Refused) {
         return tell_ran(page, config, &ran);

@@ -13,6 +13,7 @@ use rsl_event::{Act, Event, Note};
 use rsl_shard::{Move, Row};
 use rsl_wire::Octets;
 use std::alloc::Global;
+use std::sync::Arc;
 
 /// Begins a store, records moves of the script in two generations, opens the log of the second, sends
 /// its last request again, and tells what each account holds after each call.
@@ -78,7 +79,8 @@ fn empty_log(alloc: Global) -> Result<MemoryLog, Stop> {
 /// A store that begins.
 fn begin<R: Print>(page: &mut Page<R>, given: &Given) -> Result<Store<MemoryLog>, Stop> {
     let alloc = page.alloc;
-    match Store::begin(alloc, &given.config, header(1), empty_log(alloc)?) {
+    let config = Arc::try_clone(&given.config)?;
+    match Store::begin(alloc, config, header(1), empty_log(alloc)?) {
         Ok(store) => {
             writeln!(page.text, "begin")?;
             tell_rows(page, &store)?;
@@ -132,7 +134,8 @@ fn open<R: Print>(
     let before = Vec::from_slice(alloc, log.octets())?;
     let mut log = log;
     for _ in 0..TRIES {
-        match read_and_open(alloc, &given.config, log) {
+        let config = Arc::try_clone(&given.config)?;
+        match read_and_open(alloc, config, log) {
             Ok(opened) => return tell_opened(page, opened),
             Err(refused) => {
                 page.note("open", refused.log.octets() == before.as_slice())?;
@@ -149,7 +152,7 @@ fn open<R: Print>(
 /// Reads a log and opens it.
 fn read_and_open(
     alloc: Global,
-    config: &Config,
+    config: Arc<Config>,
     log: MemoryLog,
 ) -> Result<Opened<MemoryLog>, Refused<MemoryLog>> {
     let mut log = log;

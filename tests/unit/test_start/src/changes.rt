@@ -15,6 +15,7 @@ use rsl_accounts::Config;
 use rsl_reply::Dictionary;
 use rsl_session::{SavedHolder, SavedLink};
 use rsl_shard::Move;
+use std::sync::Arc;
 use std::{fs, io};
 
 /// The account files after each change.
@@ -58,10 +59,10 @@ pub fn changes(rt: &HostRuntime) -> io::Result<()> {
 }
 
 /// The account file of a name.
-pub fn accounts(rt: &HostRuntime, name: &str) -> io::Result<Config> {
+pub fn accounts(rt: &HostRuntime, name: &str) -> io::Result<Arc<Config>> {
     let path = format!(in rt.alloc(); "{name}.toml")?;
     match read_config_file(rt, rt.alloc(), &Dictionary::new(rt.alloc()), path.as_str()) {
-        Ok(config) => Ok(config),
+        Ok(config) => Ok(Arc::new(rt.alloc(), config)?),
         Err(_) => Err(io::Error::from(io::ErrorKind::InvalidData)),
     }
 }
@@ -70,7 +71,7 @@ pub fn accounts(rt: &HostRuntime, name: &str) -> io::Result<Config> {
 pub fn started<'a>(
     rt: &HostRuntime,
     folder: &str,
-    config: &Config,
+    config: &Arc<Config>,
     now: u64,
     ticks: &'a Ticks,
 ) -> io::Result<Started<'a>> {
@@ -96,7 +97,7 @@ fn change(rt: &HostRuntime, name: &str) -> io::Result<()> {
     let config = accounts(rt, name)?;
     let ticks = Ticks::new();
     let mut started = started(rt, folder.as_str(), &config, 1010, &ticks)?;
-    say_change(rt, name, &config, &mut started)
+    say_change(rt, name, &*config, &mut started)
 }
 
 /// Says what a start after a change found, what each account holds, and what comes of what is sent again.
@@ -117,7 +118,7 @@ pub fn begin_before(rt: &HostRuntime, folder: &str) -> io::Result<()> {
     let config = accounts(rt, "before")?;
     let ticks = Ticks::new();
     let mut started = started(rt, folder, &config, 1000, &ticks)?;
-    record(rt, &mut started, &config, Batch::Before)
+    record(rt, &mut started, &*config, Batch::Before)
 }
 
 /// What is recorded.
@@ -248,7 +249,7 @@ pub struct Begins {
 fn left_in(
     rt: &HostRuntime,
     folder: &str,
-    config: &Config,
+    config: &Arc<Config>,
     sessions: u64,
     begins: Begins,
 ) -> io::Result<Left> {
@@ -279,7 +280,7 @@ fn left_in(
 pub fn cuts_short(
     rt: &HostRuntime,
     folder: &str,
-    config: &Config,
+    config: &Arc<Config>,
     sessions: u64,
     begins: Begins,
 ) -> io::Result<()> {

@@ -6,12 +6,9 @@ use crate::changes::{Begins, cuts_short, say_all};
 use crate::files::{add, copy, empty, spoil};
 use crate::printed::{print_as, say_fault};
 use crate::rolls::list;
-use crate::server::{cut_books, say, say_header, started};
+use crate::server::{config_of, cut_books, say, say_header, started};
 use rld_lines::LinesFault;
 use rld_log::{Ticks, frame_of};
-use rsl_account_file::read_config;
-use rsl_accounts::Config;
-use rsl_reply::Dictionary;
 use std::{fs, io};
 
 /// The account file of the folders, with a number of shards that counts for nothing.
@@ -99,17 +96,6 @@ pub fn formers(rt: &HostRuntime) -> io::Result<()> {
     say_fault(rt, "log-1-3", LinesFault::former())
 }
 
-fn config_of(rt: &HostRuntime, accounts: &str) -> io::Result<Config> {
-    match read_config(
-        rt.alloc(),
-        &Dictionary::new(rt.alloc()),
-        accounts.as_bytes(),
-    ) {
-        Ok(config) => Ok(config),
-        Err(_) => Err(io::Error::from(io::ErrorKind::InvalidData)),
-    }
-}
-
 /// The table, under the boot number 1000.
 fn table(rt: &HostRuntime, shards: u8) -> io::Result<Vec<u8>> {
     let mut octets = b"\xfd\x03\xe8".to_vec(rt.alloc())?;
@@ -187,7 +173,7 @@ fn say_started(rt: &HostRuntime, folder: &str, accounts: &str) -> io::Result<()>
         Ok(started) => {
             println!(rt; "{folder}: {}", started.found.greeting(rt.alloc())?)?;
             say_header(rt, "  ", &started.store.header())?;
-            say_all(rt, &config, &started)
+            say_all(rt, &*config, &started)
         }
         Err(fault) => println!(rt; "{folder}: {fault}"),
     }

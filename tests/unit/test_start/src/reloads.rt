@@ -18,6 +18,7 @@ use rld_store::Store;
 use rsl_accounts::Config;
 use std::fs;
 use std::io::{self, ErrorKind};
+use std::sync::Arc;
 
 /// The folder.
 const FOLDER: &str = "reloaded";
@@ -39,8 +40,8 @@ pub fn reloads(rt: &HostRuntime) -> io::Result<()> {
 fn say_same(rt: &HostRuntime, name: &str) -> io::Result<()> {
     let old = accounts(rt, "before")?;
     let new = accounts(rt, name)?;
-    let table = has_same_table(&old, &new);
-    let clients = has_same_clients(&old, &new);
+    let table = has_same_table(&*old, &*new);
+    let clients = has_same_clients(&*old, &*new);
     println!(rt; "{name}: the same table {table}, the same clients {clients}")
 }
 
@@ -52,12 +53,12 @@ fn begins_while_it_runs(rt: &HostRuntime, name: &str) -> io::Result<()> {
     let new = accounts(rt, name)?;
     let ticks = Ticks::new();
     let running = started(rt, FOLDER, &old, 1010, &ticks)?;
-    begin_changed(rt, running, &old, &new)?;
+    begin_changed(rt, running, &*old, &new)?;
     list(rt, FOLDER)?;
     let again = started(rt, FOLDER, &new, 1011, &ticks)?;
     println!(rt; "then: {}", again.found.greeting(rt.alloc())?)?;
     say_header(rt, "  ", &again.store.header())?;
-    say_all(rt, &new, &again)
+    say_all(rt, &*new, &again)
 }
 
 /// Begins a generation with other accounts after one move more, and says what goes on.
@@ -65,7 +66,7 @@ fn begin_changed(
     rt: &HostRuntime,
     running: Started<'_>,
     old: &Config,
-    new: &Config,
+    new: &Arc<Config>,
 ) -> io::Result<()> {
     let mut running = running;
     commit(rt, &mut running, tick(rt, 1010)?)?;
@@ -82,9 +83,10 @@ fn begin_changed(
     };
     let blanks = BlankBooks::none(rt.alloc());
     let present = Generation::Numbered(former.generation);
-    let Ok(books) = admitted_books(rt.alloc(), old, present, store.books(), new, blanks) else {
+    let Ok(books) = admitted_books(rt.alloc(), old, present, store.books(), &**new, blanks) else {
         return println!(rt; "no books");
     };
+    let new = Arc::try_clone(new)?;
     let Ok(store) = Store::begin_with(rt.alloc(), new, header, books, log) else {
         return println!(rt; "no store");
     };
@@ -125,7 +127,7 @@ fn newest_written(rt: &HostRuntime) -> io::Result<Option<Written>> {
     };
     let config = accounts(rt, "before")?;
     let log = MemoryLog::new(rt.alloc(), Vec::new(rt.alloc()), Vec::new(rt.alloc()))?;
-    match Store::begin(rt.alloc(), &config, header, log) {
+    match Store::begin(rt.alloc(), config, header, log) {
         Ok(store) => Ok(Some(Written::by(&store))),
         Err(_) => Ok(None),
     }

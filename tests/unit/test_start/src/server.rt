@@ -6,11 +6,13 @@ use rld_log::{Pace, Pacing, Ticks, frame_of};
 use rld_spelling::Header;
 use rld_start::{Found, StartFault, Started, rebase, start};
 use rsl_account_file::read_config;
+use rsl_accounts::Config;
 use rsl_event::{Act, Event, Key, Nas, NasName, Note, Source};
 use rsl_reply::Dictionary;
 use rsl_shard::Move;
 use rsl_wire::Octets;
 use std::io;
+use std::sync::Arc;
 
 /// The account file.
 pub const OURS: &str = "version = 2\nshards = 2\nreserve_secs = 60\nlive_secs = 900\n\
@@ -25,6 +27,18 @@ grace_secs = 900\nclosed_secs = 3600\nkeep_secs = 10\n\
 [[client]]\naddress = \"10.0.0.1\"\nsecret = \"xyzzy5461\"\n\
 [[account]]\nname = \"nemo\"\npassword = \"arctangent\"\nplaces = 3\nports = 1\n\
 [[account]]\nname = \"flopsy\"\npassword = \"arctangent\"\nplaces = 1\nports = 1\n";
+
+/// The configuration of an account file.
+pub fn config_of(rt: &HostRuntime, accounts: &str) -> io::Result<Arc<Config>> {
+    match read_config(
+        rt.alloc(),
+        &Dictionary::new(rt.alloc()),
+        accounts.as_bytes(),
+    ) {
+        Ok(config) => Ok(Arc::new(rt.alloc(), config)?),
+        Err(_) => Err(io::Error::from(io::ErrorKind::InvalidData)),
+    }
+}
 
 /// A server that is started with these accounts, and begins a history if it finds none.
 pub fn started<'a>(
@@ -46,11 +60,7 @@ fn started_with<'a>(
     now: u64,
     ticks: &'a Ticks,
 ) -> Result<Started<'a>, StartFault> {
-    let Ok(config) = read_config(
-        rt.alloc(),
-        &Dictionary::new(rt.alloc()),
-        accounts.as_bytes(),
-    ) else {
+    let Ok(config) = config_of(rt, accounts) else {
         return Err(StartFault::NoMemory);
     };
     let pacing = pacing(ticks);
@@ -126,14 +136,7 @@ fn say_behind(rt: &HostRuntime, behind: Option<u64>) -> io::Result<()> {
 
 /// Cuts the books of a folder to a moment, and says what was done; or the fault.
 pub fn cut_books(rt: &HostRuntime, folder: &str, accounts: &str, now: u64) -> io::Result<()> {
-    let Ok(config) = read_config(
-        rt.alloc(),
-        &Dictionary::new(rt.alloc()),
-        accounts.as_bytes(),
-    ) else {
-        return Err(io::Error::from(io::ErrorKind::OutOfMemory));
-    };
-    match rebase(rt, rt.alloc(), &config, folder, now) {
+    match rebase(rt, rt.alloc(), config_of(rt, accounts)?, folder, now) {
         Ok(done) => print!(rt; "rebased at {now}: {}", done.line(rt.alloc())?),
         Err(fault) => println!(rt;
             "rebased at {now}: {fault}; status {}",

@@ -10,8 +10,6 @@ use rld_folder::{Folder, FolderFault, NewLog};
 use rld_log::{FileLog, PacedLog, Ticks};
 use rld_start::{FolderGenerations, Generations, NextLog, Started};
 use rld_state::{Reloaded, RollFault, ServerState};
-use rsl_accounts::Config;
-use std::sync::Arc;
 use std::{fs, io};
 
 /// The folder.
@@ -31,7 +29,7 @@ pub fn states(rt: &HostRuntime) -> io::Result<()> {
         key,
         ..
     } = started(rt, FOLDER, &old, 1010, &ticks)?;
-    let mut state: State<'_> = ServerState::new(store, shared(rt, old)?, key);
+    let mut state: State<'_> = ServerState::new(store, key);
     say_header(rt, "a state in ", &state.header())?;
     fs::remove_file(rt, "stated/log-1")?;
     let (Ok(lower), Ok(same)) = (
@@ -77,14 +75,6 @@ fn changes_twice<'a>(
     list(rt, FOLDER)
 }
 
-/// A configuration that is shared.
-fn shared(rt: &HostRuntime, config: Config) -> io::Result<Arc<Config>> {
-    match Arc::new(rt.alloc(), config) {
-        Ok(config) => Ok(config),
-        Err(_) => Err(io::Error::from(io::ErrorKind::OutOfMemory)),
-    }
-}
-
 /// A new log of the generation of this number.
 fn log_of<'a>(
     rt: &HostRuntime,
@@ -107,7 +97,7 @@ fn say_record(rt: &HostRuntime, state: &mut State<'_>, table: Option<u64>) -> io
 
 /// Says whether a state goes on with the account file of a name.
 fn say_go_on(rt: &HostRuntime, state: &mut State<'_>, name: &str) -> io::Result<()> {
-    let goes_on = state.go_on(shared(rt, accounts(rt, name)?)?);
+    let goes_on = state.go_on(accounts(rt, name)?);
     println!(rt; "{name}: goes on {goes_on}")
 }
 
@@ -119,7 +109,7 @@ fn say_change<'a>(
     next: NextLog<PacedLog<'a, FileLog>>,
     name: &str,
 ) -> io::Result<()> {
-    let config = shared(rt, accounts(rt, name)?)?;
+    let config = accounts(rt, name)?;
     let blanks = BlankBooks::none(rt.alloc());
     match state.change(rt.alloc(), generations, config, next, blanks) {
         Ok(changed) => {

@@ -8,11 +8,12 @@ use rsl_event::Decision;
 use rsl_shard::Move;
 use std::alloc::Global;
 use std::process::Abort;
+use std::sync::Arc;
 use std::test::Fail;
 
 /// Begins a store and records three batches of two moves until a call fails: how many batches were
 /// answered, and the log.
-fn live(alloc: Global, config: &Config, log: MemoryLog) -> Result<(u64, MemoryLog), Fail> {
+fn live(alloc: Global, config: Arc<Config>, log: MemoryLog) -> Result<(u64, MemoryLog), Fail> {
     let mut store = match Store::begin(alloc, config, HEADER, log) {
         Ok(store) => store,
         Err(refused) => return Ok((0, refused.log)),
@@ -59,10 +60,11 @@ fn crash<R: Abort + AllocGlobal>(
         failing: u64::MAX,
         kept,
     };
-    let (answered, log) = live(alloc, &config, log_of(alloc, &[], &[short])?)?;
+    let log = log_of(alloc, &[], &[short])?;
+    let (answered, log) = live(alloc, Arc::try_clone(&config)?, log)?;
     // a call that reads and four that begin, then two for each batch
     assert_eq!(rt; answered, (calls.max(5) - 5) / 2);
-    match open(alloc, &config, crashed(log, ending)) {
+    match open(alloc, config, crashed(log, ending)) {
         Ok(opened) => {
             let more = opened.moves.checked_sub(2 * answered as usize);
             assert!(rt; matches!(more, Some(0 | 2)));

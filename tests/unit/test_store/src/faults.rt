@@ -35,7 +35,7 @@ pub fn frames(alloc: Global, payloads: &[&str]) -> Result<Vec<u8>, Fail> {
 
 /// Why a log with these octets is not opened. It is left as it was.
 fn fault_of(alloc: Global, octets: &[u8]) -> Result<Option<StoreFault>, Fail> {
-    match open(alloc, &config(alloc)?, log_of(alloc, octets, &[])?) {
+    match open(alloc, config(alloc)?, log_of(alloc, octets, &[])?) {
         Ok(_) => Ok(None),
         Err(refused) => {
             if refused.log.octets() != octets {
@@ -274,7 +274,7 @@ fn snapshots_of_other_accounts(rt: HostRuntime) -> Result<(), Fail> {
 fn a_log_that_has_something_is_occupied(rt: HostRuntime) -> Result<(), Fail> {
     let alloc = rt.alloc();
     let log = log_of(alloc, &[0], &[])?;
-    match Store::begin(alloc, &config(alloc)?, HEADER, log) {
+    match Store::begin(alloc, config(alloc)?, HEADER, log) {
         Ok(_) => return Err("begun")?,
         Err(refused) => {
             assert_eq!(rt; refused.fault, StoreFault::Occupied);

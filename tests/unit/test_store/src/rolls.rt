@@ -103,8 +103,7 @@ fn unrolled(alloc: Global, store: &mut Store<MemoryLog>, calls: u64) -> Result<M
 /// That the next log has no generation, or, after three calls or more, one with the same books.
 fn check_next<R: Abort + AllocGlobal>(rt: &R, next: MemoryLog, calls: u64) -> Result<(), Fail> {
     let alloc = rt.alloc();
-    let config = config(alloc)?;
-    match open(alloc, &config, log_of(alloc, next.octets(), &[])?) {
+    match open(alloc, config(alloc)?, log_of(alloc, next.octets(), &[])?) {
         Ok(opened) => {
             assert!(rt; calls >= 3);
             check_held(rt, &opened.store, [1, 0])

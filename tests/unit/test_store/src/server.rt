@@ -11,6 +11,7 @@ use rsl_shard::Move;
 use rsl_wire::Octets;
 use std::alloc::Global;
 use std::process::Abort;
+use std::sync::Arc;
 use std::test::Fail;
 
 /// The configuration of two accounts.
@@ -30,8 +31,9 @@ pub const HEADER: Header = Header {
 };
 
 /// The configuration.
-pub fn config(alloc: Global) -> Result<Config, Fail> {
-    Ok(read_config(alloc, &Dictionary::new(alloc), FILE.as_bytes())?)
+pub fn config(alloc: Global) -> Result<Arc<Config>, Fail> {
+    let config = read_config(alloc, &Dictionary::new(alloc), FILE.as_bytes())?;
+    Ok(Arc::new(alloc, config)?)
 }
 
 /// A log in memory with these octets, whose lives go so.
@@ -94,14 +96,8 @@ pub fn tick(moment: u64) -> Move {
 
 /// A new store, whose log has these lives.
 pub fn begun(alloc: Global, lives: &[Life]) -> Result<Store<MemoryLog>, Fail> {
-    let config = config(alloc)?;
-    begun_for(alloc, &config, lives)
-}
-
-/// A new store of a configuration, whose log has these lives.
-pub fn begun_for(alloc: Global, config: &Config, lives: &[Life]) -> Result<Store<MemoryLog>, Fail> {
     let log = log_of(alloc, &[], lives)?;
-    match Store::begin(alloc, config, HEADER, log) {
+    match Store::begin(alloc, config(alloc)?, HEADER, log) {
         Ok(store) => Ok(store),
         Err(_) => Err("not begun")?,
     }
@@ -110,7 +106,7 @@ pub fn begun_for(alloc: Global, config: &Config, lives: &[Life]) -> Result<Store
 /// Reads a log and opens it.
 pub fn open(
     alloc: Global,
-    config: &Config,
+    config: Arc<Config>,
     log: MemoryLog,
 ) -> Result<Opened<MemoryLog>, Refused<MemoryLog>> {
     let mut log = log;
@@ -122,8 +118,7 @@ pub fn open(
 
 /// A store of a log with these octets, and what was found there.
 pub fn found(alloc: Global, octets: &[u8]) -> Result<Opened<MemoryLog>, Fail> {
-    let config = config(alloc)?;
-    match open(alloc, &config, log_of(alloc, octets, &[])?) {
+    match open(alloc, config(alloc)?, log_of(alloc, octets, &[])?) {
         Ok(opened) => Ok(opened),
         Err(_) => Err("not opened")?,
     }

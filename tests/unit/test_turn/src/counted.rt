@@ -1,6 +1,6 @@
 //! What is counted of turns, at a receiver's place of a board.
 
-use crate::disk::store_of;
+use crate::disk::{shared_config, store_of};
 use crate::turns::{Scene, port_of, scene_of, served};
 use rld_counts::{Board, Cell, Fate, Gate, cell_of};
 use rld_log::MemoryLog;
@@ -15,7 +15,6 @@ use std::sync::atomic::{AtomicU64, Ordering};
 use std::test::Fail;
 use std::time::{Clock, Duration};
 use test_rows::{Subject, check_rows, number, short_number};
-use test_timelines::config_of;
 
 /// The counts of the turns of rows, at this gate, or else at that of the row's port.
 #[derive(Clone, Copy)]
@@ -27,7 +26,7 @@ struct Counted<'a, R: Wait + Clock> {
 impl<R: Wait + Clock> Subject for Counted<'_, R> {
     fn found(&self, alloc: Global, fields: &[&str]) -> Result<String, Fail> {
         let scene = scene_of(fields)?;
-        let config = config_of(alloc, "1")?;
+        let config = shared_config(alloc)?;
         let mut store = store_of(alloc, &config, scene.disk)?;
         let gate = self.gate.unwrap_or(Gate::of(port_of(scene.port)?));
         let board = Board::new(alloc, config.clients(), &[gate])?;
@@ -40,7 +39,14 @@ impl<R: Wait + Clock> Subject for Counted<'_, R> {
             return Err("no place")?;
         };
         let mut counts = String::new(alloc);
-        served(alloc, &config, scene, &mut store, &mut watcher, &mut counts)?;
+        served(
+            alloc,
+            &*config,
+            scene,
+            &mut store,
+            &mut watcher,
+            &mut counts,
+        )?;
         let clients = config.clients();
         let readings = board.read(self.rt, alloc, clients)?;
         let cell = cell_of(alloc, readings.as_slice(), gate, clients)?;
@@ -89,7 +95,7 @@ impl<R: Wait> Subject for Timed<'_, R> {
             looks: AtomicU64::new(0),
         };
         let scene = scene_of(scene)?;
-        let config = config_of(alloc, "1")?;
+        let config = shared_config(alloc)?;
         let mut store = store_of(alloc, &config, scene.disk)?;
         let gate = Gate::of(port_of(scene.port)?);
         let board = Board::new(alloc, config.clients(), &[gate])?;
@@ -102,7 +108,14 @@ impl<R: Wait> Subject for Timed<'_, R> {
             return Err("no place")?;
         };
         let mut counts = String::new(alloc);
-        served(alloc, &config, scene, &mut store, &mut watcher, &mut counts)?;
+        served(
+            alloc,
+            &*config,
+            scene,
+            &mut store,
+            &mut watcher,
+            &mut counts,
+        )?;
         let clients = config.clients();
         let readings = board.read(&slow, alloc, clients)?;
         let cell = cell_of(alloc, readings.as_slice(), gate, clients)?;
@@ -124,7 +137,7 @@ impl<R: Wait + Clock> Subject for Renewed<'_, R> {
             return Err("a row with other fields")?;
         };
         let scene = scene_of(scene)?;
-        let config = config_of(alloc, "1")?;
+        let config = shared_config(alloc)?;
         let mut store = store_of(alloc, &config, scene.disk)?;
         let gate = Gate::of(port_of(scene.port)?);
         let board = Board::new(alloc, config.clients(), &[gate, gate])?;
@@ -133,10 +146,10 @@ impl<R: Wait + Clock> Subject for Renewed<'_, R> {
             board: &board,
             refusals: &refusals,
         };
-        served_by_two(self.rt, alloc, &config, context, scene, &mut store)?;
+        served_by_two(self.rt, alloc, &*config, context, scene, &mut store)?;
         let counts = board.counts_for(alloc, short_number(clients)?)?;
         board.renew(self.rt, counts);
-        served_by_two(self.rt, alloc, &config, context, scene, &mut store)?;
+        served_by_two(self.rt, alloc, &*config, context, scene, &mut store)?;
         let looked = short_number(looked)?;
         let readings = board.read(self.rt, alloc, looked)?;
         let cell = cell_of(alloc, readings.as_slice(), gate, looked)?;

@@ -8,8 +8,10 @@ use rld_store::Store;
 use rsl_accounts::Config;
 use rsl_shard::Move;
 use std::alloc::Global;
+use std::sync::Arc;
 use std::test::Fail;
 use test_rows::{Plain, push_printed, short_number};
+use test_timelines::config_of;
 
 /// The header of the first generation.
 const HEADER: Header = Header {
@@ -19,11 +21,16 @@ const HEADER: Header = Header {
     lines: 0,
 };
 
+/// The configuration of the store.
+pub(crate) fn shared_config(alloc: Global) -> Result<Arc<Config>, Fail> {
+    Ok(Arc::new(alloc, config_of(alloc, "1")?)?)
+}
+
 /// A new store. With `append 1` the append of the second batch fails, with `sync 0` the sync of the
 /// first, and each other call succeeds.
 pub(crate) fn store_of(
     alloc: Global,
-    config: &Config,
+    config: &Arc<Config>,
     words: &str,
 ) -> Result<Store<MemoryLog>, Fail> {
     let mut lives = Vec::new(alloc);
@@ -31,7 +38,7 @@ pub(crate) fn store_of(
         lives.push(life_of(call, short_number(batch)?)?)?;
     }
     let log = MemoryLog::new(alloc, Vec::new(alloc), lives)?;
-    match Store::begin(alloc, config, HEADER, log) {
+    match Store::begin(alloc, Arc::try_clone(config)?, HEADER, log) {
         Ok(store) => Ok(store),
         Err(_) => Err("not begun")?,
     }

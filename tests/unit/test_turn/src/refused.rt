@@ -1,6 +1,6 @@
 //! The lines of the datagrams that turns refused.
 
-use crate::disk::store_of;
+use crate::disk::{shared_config, store_of};
 use crate::turns::{port_of, scene_of, served};
 use rld_counts::{Board, Gate};
 use rld_look::{Refusals, Sink, WatchContext, Watcher};
@@ -9,7 +9,6 @@ use std::sync::Wait;
 use std::test::Fail;
 use std::time::Clock;
 use test_rows::{Subject, check_rows};
-use test_timelines::config_of;
 
 /// The lines of the turns of rows.
 #[derive(Clone, Copy)]
@@ -20,7 +19,7 @@ struct Lines<'a, R: Wait + Clock> {
 impl<R: Wait + Clock> Subject for Lines<'_, R> {
     fn found(&self, alloc: Global, fields: &[&str]) -> Result<String, Fail> {
         let scene = scene_of(fields)?;
-        let config = config_of(alloc, "1")?;
+        let config = shared_config(alloc)?;
         let mut store = store_of(alloc, &config, scene.disk)?;
         let board = Board::new(alloc, config.clients(), &[Gate::of(port_of(scene.port)?)])?;
         let refusals = Refusals::new(alloc, 1)?;
@@ -32,7 +31,14 @@ impl<R: Wait + Clock> Subject for Lines<'_, R> {
             return Err("no place")?;
         };
         let mut counts = String::new(alloc);
-        served(alloc, &config, scene, &mut store, &mut watcher, &mut counts)?;
+        served(
+            alloc,
+            &*config,
+            scene,
+            &mut store,
+            &mut watcher,
+            &mut counts,
+        )?;
         let mut lines = Vec::new(alloc);
         for refusal in refusals.take(self.rt, alloc).waited {
             refusal.write_line(alloc, &mut lines, Sink::Plain, None)?;

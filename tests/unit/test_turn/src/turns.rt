@@ -11,7 +11,7 @@
 
 use crate::clock::clock_of;
 use crate::coming::{coming_of, networks_of, push_sent};
-use crate::disk::{batches_of, left_by, push_moves, store_of};
+use crate::disk::{batches_of, left_by, push_moves, shared_config, store_of};
 use crate::notes::{Notes, Unwatched};
 use rld_log::MemoryLog;
 use rld_store::{Store, read_frames};
@@ -22,9 +22,9 @@ use rsl_port::{Clock, MemoryPort};
 use rsl_shard::Move;
 use std::alloc::Global;
 use std::net::SocketAddr;
+use std::sync::Arc;
 use std::test::Fail;
 use test_rows::{Plain, Subject, check_rows, number, numbers_of, push_printed};
-use test_timelines::config_of;
 
 /// The turns of rows.
 #[derive(Clone, Copy)]
@@ -33,13 +33,20 @@ struct Turns;
 impl Subject for Turns {
     fn found(&self, alloc: Global, fields: &[&str]) -> Result<String, Fail> {
         let scene = scene_of(fields)?;
-        let config = config_of(alloc, "1")?;
+        let config = shared_config(alloc)?;
         let mut store = store_of(alloc, &config, scene.disk)?;
         let mut text = String::new(alloc);
-        let datagrams = served(alloc, &config, scene, &mut store, &mut Unwatched, &mut text)?;
+        let datagrams = served(
+            alloc,
+            &*config,
+            scene,
+            &mut store,
+            &mut Unwatched,
+            &mut text,
+        )?;
         push_port(&mut text, &datagrams)?;
         push_sent(&mut text, alloc, datagrams.sent())?;
-        push_moves(&mut text, alloc, &config, &left_by(store))?;
+        push_moves(&mut text, alloc, &*config, &left_by(store))?;
         Ok(text)
     }
 }
@@ -86,12 +93,19 @@ struct Crowds;
 impl Subject for Crowds {
     fn found(&self, alloc: Global, fields: &[&str]) -> Result<String, Fail> {
         let scene = scene_of(fields)?;
-        let config = config_of(alloc, "1")?;
+        let config = shared_config(alloc)?;
         let mut store = store_of(alloc, &config, scene.disk)?;
         let mut text = String::new(alloc);
-        let datagrams = served(alloc, &config, scene, &mut store, &mut Unwatched, &mut text)?;
+        let datagrams = served(
+            alloc,
+            &*config,
+            scene,
+            &mut store,
+            &mut Unwatched,
+            &mut text,
+        )?;
         push_port(&mut text, &datagrams)?;
-        push_sizes(&mut text, &batches_of(alloc, &config, &left_by(store))?)?;
+        push_sizes(&mut text, &batches_of(alloc, &*config, &left_by(store))?)?;
         Ok(text)
     }
 }
@@ -103,11 +117,11 @@ struct Watched;
 impl Subject for Watched {
     fn found(&self, alloc: Global, fields: &[&str]) -> Result<String, Fail> {
         let scene = scene_of(fields)?;
-        let config = config_of(alloc, "1")?;
+        let config = shared_config(alloc)?;
         let mut store = store_of(alloc, &config, scene.disk)?;
         let mut notes = Notes::new(alloc);
         let mut counts = String::new(alloc);
-        served(alloc, &config, scene, &mut store, &mut notes, &mut counts)?;
+        served(alloc, &*config, scene, &mut store, &mut notes, &mut counts)?;
         Ok(String::from_str(alloc, notes.text())?)
     }
 }
@@ -344,16 +358,16 @@ fn sent_in_turn(
 #[test]
 fn a_restart_changes_no_answer(rt: HostRuntime) -> Result<(), Fail> {
     let alloc = rt.alloc();
-    let config = config_of(alloc, "1")?;
+    let config = shared_config(alloc)?;
     let mut store = store_of(alloc, &config, "")?;
-    let sent = sent_in_turn(alloc, &config, "ask ask:1025", &mut store)?;
+    let sent = sent_in_turn(alloc, &*config, "ask ask:1025", &mut store)?;
     assert_eq!(rt; sent.as_str(), " accept to 1024, limit to 1025,");
     let mut log = left_by(store);
     let frames = read_frames(alloc, &mut log)?;
-    let Ok(mut opened) = Store::open(alloc, &config, log, &frames) else {
+    let Ok(mut opened) = Store::open(alloc, Arc::try_clone(&config)?, log, &frames) else {
         return Err("not opened")?;
     };
-    let again = sent_in_turn(alloc, &config, "ask ask:1025 ask:1026", &mut opened.store)?;
+    let again = sent_in_turn(alloc, &*config, "ask ask:1025 ask:1026", &mut opened.store)?;
     assert_eq!(rt;
         again.as_str(),
         " accept to 1024, limit to 1025, limit to 1026,"

@@ -1,9 +1,13 @@
-use Rattle.std.proofs.Common.{◌≡◌, ◌++◌, ◌∷◌, [], List, length, refl, ap, sym, subst, ◌∙◌, arith}
+use Rattle.std.proofs.Common.{◌≡◌, ◌⊎◌, ◌++◌, ◌∷◌, [], List, length, refl, ap, sym, subst, ◌∙◌, arith}
 use Rattle.std.specs.Prelude.{Ok, Err}
 use Rattle.std.specs.Vec.Iter.{into_iter_items}
 use Rattle.rsl_shard.specs.declared.moved.Move.{Move}
 use Rattle.rld_books.specs.Server.{ServerSeen}
+use Rattle.std.specs.Arc.{arc_value}
+use Rattle.rsl_accounts.specs.Configuration.{Configuration}
 use Rattle.rld_store.specs.Recorded.{is_last}
+use Rattle.rld_store.specs.Standing.{StandsFor}
+use Rattle.rld_store.specs.declared.store.End.TheVariants.{Settled}
 use Rattle.rld_store.specs.Stored.{is_unsynced}
 use Rattle.rld_store.specs.declared.fault.RecordFault.TheVariants.{Failed, Ended}
 use Rattle.rld_lives.specs.Leaving.{batches_of}
@@ -33,7 +37,8 @@ loop-step-init g c =
       out = λ later are. subst (λ (o : List Outcome). AreOutcomes c.args.store.now.books batches (o ++ later)) (sym c.in_ok-outcomes.ensures.items)
           (subst (λ (b : List (List Move)). AreOutcomes c.args.store.now.books b later) (sym all) are);
       over = λ none. (none, ap has_ended c.in_ok-outcomes.ensures.items);
-      goes = λ told config opening history so. record {
+      same = refl;
+      goes = λ told opening history so. record {
         so_far = history;
         unanswered = [];
         stands = so;
@@ -64,12 +69,14 @@ loop-step-preserved-in-Ok g c =
           (subst (λ (b : List (List Move)). (later : List Outcome) → AreOutcomes was.books b later → AreOutcomes c.args.store.now.books batches (outcomes ++ later)) next now.out)
           c.in-Ok.recorded c.push_reserved.ensures.items c.in-Ok.ensures.decisions c.in-Ok.ensures.books;
       over = λ none. (c.commit.ensures.over (now.over none).0 ∙ ap is_unsynced c.in-Ok.is, ended_more outcomes more (Ok c.in-Ok.recorded) c.push_reserved.ensures.items (now.over none).1);
-      goes = λ told config opening history so.
-          goes_recorded config opening was.counts store.counts was.table.items store.table.items g.L.Log.tears was.end store.end (g.L.Log.seen was.log) (g.L.Log.seen store.log) (g.L.Log.may_leave was.log) (g.L.Log.may_leave store.log) was.whole store.whole
+      same = c.commit.ensures.config ∙ now.same;
+      goes = λ told opening history so.
+          goes_recorded (arc_value c.args.store.now.config) opening g.L.Log.tears was.end store.end (g.L.Log.seen was.log) (g.L.Log.seen store.log) (g.L.Log.may_leave was.log) (g.L.Log.may_leave store.log) was.whole store.whole
           was.books store.books history batches outcomes more batch rest
-          (subst (λ (b : List (List Move)). GoesOn config opening was.counts was.table.items g.L.Log.tears was.end (g.L.Log.seen was.log) (g.L.Log.may_leave was.log) was.whole was.books history batches outcomes b) next
-          (now.goes (c.commit.ensures.told told) config opening history so))
-          c.in-Ok.recorded c.push_reserved.ensures.items (c.in-Ok.ensures.recorded told config opening) c.in-Ok.ensures.settled;
+          (subst (λ (b : List (List Move)). GoesOn (arc_value c.args.store.now.config) opening g.L.Log.tears was.end (g.L.Log.seen was.log) (g.L.Log.may_leave was.log) was.whole was.books history batches outcomes b) next
+          (now.goes (c.commit.ensures.told told) opening history so))
+          c.in-Ok.recorded c.push_reserved.ensures.items (subst (λ (x : Configuration). (some unanswered : List Move) → StandsFor x opening g.L.Log.tears was.end (g.L.Log.seen was.log) (g.L.Log.may_leave was.log) was.whole was.books some unanswered
+          → StandsFor x opening g.L.Log.tears Settled (g.L.Log.seen store.log) (g.L.Log.may_leave store.log) store.whole store.books (some ++ batch) batch) (ap arc_value now.same) (c.in-Ok.ensures.recorded told opening)) c.in-Ok.ensures.settled;
     }
 
 pub loop-step-preserved : goal.loop-step-preserved
@@ -98,12 +105,14 @@ loop-step-preserved g c =
         c.commit.ensures.over (now.over none).0 ∙ ap is_unsynced c.in-Err.is ∙ ap is_last (sym c.from.ensures ∙ c.in-Failed.is),
         ended_more outcomes more (Err Failed) c.push_reserved-in-Failed.ensures.items (now.over none).1,
       );
-      goes = λ told config opening history so.
-          goes_unrecorded config opening was.counts store.counts was.table.items store.table.items g.L.Log.tears was.end store.end (g.L.Log.seen was.log) (g.L.Log.seen store.log) (g.L.Log.may_leave was.log) (g.L.Log.may_leave store.log) was.whole store.whole
+      same = c.commit.ensures.config ∙ now.same;
+      goes = λ told opening history so.
+          goes_unrecorded (arc_value c.args.store.now.config) opening g.L.Log.tears was.end store.end (g.L.Log.seen was.log) (g.L.Log.seen store.log) (g.L.Log.may_leave was.log) (g.L.Log.may_leave store.log) was.whole store.whole
           was.books store.books history batches outcomes more batch rest
-          (subst (λ (b : List (List Move)). GoesOn config opening was.counts was.table.items g.L.Log.tears was.end (g.L.Log.seen was.log) (g.L.Log.may_leave was.log) was.whole was.books history batches outcomes b) next
-          (now.goes (c.commit.ensures.told told) config opening history so))
-          Failed c.push_reserved-in-Failed.ensures.items (c.in-Err.ensures.left told config opening);
+          (subst (λ (b : List (List Move)). GoesOn (arc_value c.args.store.now.config) opening g.L.Log.tears was.end (g.L.Log.seen was.log) (g.L.Log.may_leave was.log) was.whole was.books history batches outcomes b) next
+          (now.goes (c.commit.ensures.told told) opening history so))
+          Failed c.push_reserved-in-Failed.ensures.items (subst (λ (x : Configuration). (some unanswered : List Move) → StandsFor x opening g.L.Log.tears was.end (g.L.Log.seen was.log) (g.L.Log.may_leave was.log) was.whole was.books some unanswered
+          → StandsFor x opening g.L.Log.tears store.end (g.L.Log.seen store.log) (g.L.Log.may_leave store.log) store.whole store.books some unanswered ⊎ StandsFor x opening g.L.Log.tears store.end (g.L.Log.seen store.log) (g.L.Log.may_leave store.log) store.whole store.books some batch) (ap arc_value now.same) (c.in-Err.ensures.left told opening));
     }
 
 pub loop-step-preserved-in-Roll : goal.loop-step-preserved-in-Roll
@@ -125,11 +134,13 @@ loop-step-preserved-in-Roll g c =
       told = λ told. now.told (c.roll_on.ensures.told told);
       out = λ later are. now.out later (subst (λ (b : List (List Move)). AreOutcomes was.books b later) (sym next) (subst (λ (b : ServerSeen). AreOutcomes b rest later) c.roll_on.ensures.books are));
       over = λ none. (c.roll_on.ensures.over ∙ (now.over none).0, (now.over none).1);
-      goes = λ told config opening history so.
-          goes_on config opening was.counts store.counts was.table.items store.table.items g.L.Log.tears was.end store.end (g.L.Log.seen was.log) (g.L.Log.seen store.log) (g.L.Log.may_leave was.log) (g.L.Log.may_leave store.log) was.whole store.whole
-          was.books store.books history batches outcomes rest (c.roll_on.ensures.stands told config opening)
-          (subst (λ (b : List (List Move)). GoesOn config opening was.counts was.table.items g.L.Log.tears was.end (g.L.Log.seen was.log) (g.L.Log.may_leave was.log) was.whole was.books history batches outcomes b) next
-          (now.goes (c.roll_on.ensures.told told) config opening history so));
+      same = c.roll_on.ensures.config ∙ now.same;
+      goes = λ told opening history so.
+          goes_on (arc_value c.args.store.now.config) opening g.L.Log.tears was.end store.end (g.L.Log.seen was.log) (g.L.Log.seen store.log) (g.L.Log.may_leave was.log) (g.L.Log.may_leave store.log) was.whole store.whole
+          was.books store.books history batches outcomes rest (subst (λ (x : Configuration). (some unanswered : List Move) → StandsFor x opening g.L.Log.tears was.end (g.L.Log.seen was.log) (g.L.Log.may_leave was.log) was.whole was.books some unanswered
+          → StandsFor x opening g.L.Log.tears store.end (g.L.Log.seen store.log) (g.L.Log.may_leave store.log) store.whole store.books some unanswered ⊎ StandsFor x opening g.L.Log.tears store.end (g.L.Log.seen store.log) (g.L.Log.may_leave store.log) store.whole store.books some []) (ap arc_value now.same) (c.roll_on.ensures.stands told opening))
+          (subst (λ (b : List (List Move)). GoesOn (arc_value c.args.store.now.config) opening g.L.Log.tears was.end (g.L.Log.seen was.log) (g.L.Log.may_leave was.log) was.whole was.books history batches outcomes b) next
+          (now.goes (c.roll_on.ensures.told told) opening history so));
     }
 
 pub returns-in-Ended-clause-outcomes : goal.returns-in-Ended-clause-outcomes
@@ -142,7 +153,7 @@ returns-in-Ended-clause-outcomes g c =
     c.push_reserved-in-Ended.ensures.items
 
 pub returns-in-Ended-clause-lived : goal.returns-in-Ended-clause-lived
-returns-in-Ended-clause-lived g c = λ told config opening history so.
+returns-in-Ended-clause-lived g c = λ told opening history so.
     let batches : List (List Move) = batches_of c.args.steps.items in
     let outcomes : List Outcome = c.loop-step.outcomes.items in
     let more : List Outcome = c.push_reserved-in-Ended.new.self.items in
@@ -155,12 +166,13 @@ returns-in-Ended-clause-lived g c = λ told config opening history so.
     let out : AreOutcomes c.args.store.now.books batches more = next_ended c.args.store.now.books was.books store.books batches rest batch outcomes more
     (subst (λ (b : List (List Move)). (later : List Outcome) → AreOutcomes was.books b later → AreOutcomes c.args.store.now.books batches (outcomes ++ later)) next c.loop-step.invariant.out)
     c.push_reserved-in-Ended.ensures.items in
-    stands_after config opening store.counts store.table.items g.L.Log.tears store.end (g.L.Log.seen store.log) (g.L.Log.may_leave store.log) store.whole store.books history batches more rest
-    (goes_unrecorded config opening was.counts store.counts was.table.items store.table.items g.L.Log.tears was.end store.end (g.L.Log.seen was.log) (g.L.Log.seen store.log) (g.L.Log.may_leave was.log) (g.L.Log.may_leave store.log) was.whole store.whole
+    stands_after (arc_value c.args.store.now.config) opening g.L.Log.tears store.end (g.L.Log.seen store.log) (g.L.Log.may_leave store.log) store.whole store.books history batches more rest
+    (goes_unrecorded (arc_value c.args.store.now.config) opening g.L.Log.tears was.end store.end (g.L.Log.seen was.log) (g.L.Log.seen store.log) (g.L.Log.may_leave was.log) (g.L.Log.may_leave store.log) was.whole store.whole
     was.books store.books history batches outcomes more batch rest
-    (subst (λ (b : List (List Move)). GoesOn config opening was.counts was.table.items g.L.Log.tears was.end (g.L.Log.seen was.log) (g.L.Log.may_leave was.log) was.whole was.books history batches outcomes b) next
-    (c.loop-step.invariant.goes (c.commit.ensures.told told) config opening history so))
-    Ended c.push_reserved-in-Ended.ensures.items (c.in-Err.ensures.left told config opening))
+    (subst (λ (b : List (List Move)). GoesOn (arc_value c.args.store.now.config) opening g.L.Log.tears was.end (g.L.Log.seen was.log) (g.L.Log.may_leave was.log) was.whole was.books history batches outcomes b) next
+    (c.loop-step.invariant.goes (c.commit.ensures.told told) opening history so))
+    Ended c.push_reserved-in-Ended.ensures.items (subst (λ (x : Configuration). (some unanswered : List Move) → StandsFor x opening g.L.Log.tears was.end (g.L.Log.seen was.log) (g.L.Log.may_leave was.log) was.whole was.books some unanswered
+    → StandsFor x opening g.L.Log.tears store.end (g.L.Log.seen store.log) (g.L.Log.may_leave store.log) store.whole store.books some unanswered ⊎ StandsFor x opening g.L.Log.tears store.end (g.L.Log.seen store.log) (g.L.Log.may_leave store.log) store.whole store.books some batch) (ap arc_value c.loop-step.invariant.same) (c.in-Err.ensures.left told opening)))
     (subst (λ (s : ServerSeen). AreOutcomes s batches more) so.replayed out)
 
 pub returns-in-Ended-clause-over : goal.returns-in-Ended-clause-over
@@ -178,13 +190,13 @@ returns-clause-outcomes g c =
     (none_of (into_iter_items c.loop-step.step-iterator) (omega (arith, c.loop-step.invariant.len, c.in-None.ensures.steps.0)))
 
 pub returns-clause-lived : goal.returns-clause-lived
-returns-clause-lived g c = λ told config opening history so.
+returns-clause-lived g c = λ told opening history so.
     let batches : List (List Move) = batches_of c.args.steps.items in
     let outcomes : List Outcome = c.loop-step.outcomes.items in
     let rest : List (List Move) = batches_of (into_iter_items c.loop-step.step-iterator) in
     let store = c.loop-step.store in
     let out : AreOutcomes c.args.store.now.books batches outcomes = none_next c.args.store.now.books store.books batches rest outcomes c.loop-step.invariant.out
     (none_of (into_iter_items c.loop-step.step-iterator) (omega (arith, c.loop-step.invariant.len, c.in-None.ensures.steps.0))) in
-    stands_after config opening store.counts store.table.items g.L.Log.tears store.end (g.L.Log.seen store.log) (g.L.Log.may_leave store.log) store.whole store.books history batches outcomes rest
-    (c.loop-step.invariant.goes told config opening history so)
+    stands_after (arc_value c.args.store.now.config) opening g.L.Log.tears store.end (g.L.Log.seen store.log) (g.L.Log.may_leave store.log) store.whole store.books history batches outcomes rest
+    (c.loop-step.invariant.goes told opening history so)
     (subst (λ (s : ServerSeen). AreOutcomes s batches outcomes) so.replayed out)

@@ -1,7 +1,7 @@
 use Rattle.std.proofs.Common.{◌≡◌, ◌+◌, ◌≤◌, ◌++◌, false, List, [], IsTrue, length, vec_len}
+use Rattle.std.specs.Arc.{arc_value}
 use Rattle.std.specs.Vec.{vec_capacity}
 use Rattle.std.specs.Vec.Iter.{into_iter_items, into_iter_len}
-use Rattle.rsl_accounts.specs.Configuration.{Configuration}
 use Rattle.rld_books.specs.Server.{ServerSeen}
 use Rattle.rsl_shard.specs.declared.moved.Move.{Move}
 use Rattle.rld_store.specs.Standing.{StandsFor}
@@ -20,8 +20,9 @@ invariant-loop-step g l = record {
   out : (later : List Outcome) → AreOutcomes l.store.books (batches_of (into_iter_items l.step-iterator)) later
       → AreOutcomes l.fn.store.books (batches_of l.fn.steps.items) (l.outcomes.items ++ later);
   over : l.fn.store.is_over ≡ false → (l.store.is_over ≡ false) × (has_ended l.outcomes.items ≡ false);
-  goes : IsTrue (g.L.Log.tells l.store.log) → (config : Configuration) (opening : ServerSeen) (history : List Move)
-      → StandsFor config opening l.fn.store.counts l.fn.store.table.items g.L.Log.tears l.fn.store.end (g.L.Log.seen l.fn.store.log) (g.L.Log.may_leave l.fn.store.log) l.fn.store.whole l.fn.store.books history []
-      → GoesOn config opening l.store.counts l.store.table.items g.L.Log.tears l.store.end (g.L.Log.seen l.store.log) (g.L.Log.may_leave l.store.log) l.store.whole l.store.books history
+  same : l.store.config ≡ l.fn.store.config;
+  goes : IsTrue (g.L.Log.tells l.store.log) → (opening : ServerSeen) (history : List Move)
+      → StandsFor (arc_value l.fn.store.config) opening g.L.Log.tears l.fn.store.end (g.L.Log.seen l.fn.store.log) (g.L.Log.may_leave l.fn.store.log) l.fn.store.whole l.fn.store.books history []
+      → GoesOn (arc_value l.fn.store.config) opening g.L.Log.tears l.store.end (g.L.Log.seen l.store.log) (g.L.Log.may_leave l.store.log) l.store.whole l.store.books history
       (batches_of l.fn.steps.items) l.outcomes.items (batches_of (into_iter_items l.step-iterator));
 }

@@ -1,4 +1,5 @@
 use Rattle.std.proofs.Common.{◌⊎◌, ◌∙◌, ℕ, List, refl, inl, inr, sym, subst}
+use Rattle.std.specs.Arc.{arc_value}
 use Rattle.rld_store.specs.Generations.{HasHistory, IsUnbegun}
 use Rattle.rld_lives.specs.Choosing.{IsChosenBy}
 use Rattle.rld_lives.proofs.Leaving.{newest_has, older_has}
@@ -12,7 +13,7 @@ returns-in-Ok-clause-lived g c =
     let told_new = c.in-Ok.ensures.told told in
     let begun : IsUnbegun newest → ⊥ = subst (IsChosenBy newest) c.in-Ok-Newest.field-0-is (c.in-Ok-Newest.ensures.chosen told_new) in
     c.in-Ok.ensures.lived told premise opening history
-    (subst (HasHistory c.args.config.now opening history) (sym (c.choose.ensures.same told_new)) (newest_has c.args.config.now opening history older newest begun have))))
+    (subst (HasHistory (arc_value c.args.config.now) opening history) (sym (c.choose.ensures.same told_new)) (newest_has (arc_value c.args.config.now) opening history older newest begun have))))
 
 pub returns-in-Err-live_in-clause-lived : goal.returns-in-Err-live_in-clause-lived
 returns-in-Err-live_in-clause-lived g c =
@@ -23,11 +24,11 @@ returns-in-Err-live_in-clause-lived g c =
     let told_new = c.in-Err-live_in.ensures.refused told_left in
     let same = c.choose.ensures.same told_new in
     let begun : IsUnbegun newest → ⊥ = subst (IsChosenBy newest) c.in-Ok-Newest.field-0-is (c.in-Ok-Newest.ensures.chosen told_new) in
-    let has = subst (HasHistory c.args.config.now opening history) (sym same) (newest_has c.args.config.now opening history older newest begun have) in
+    let has = subst (HasHistory (arc_value c.args.config.now) opening history) (sym same) (newest_has (arc_value c.args.config.now) opening history older newest begun have) in
     record {
       left = history;
       life = refl;
-      have = c.not_begun.ensures.have told c.args.config.now opening history (λ old new reached_old reached_new.
+      have = c.not_begun.ensures.have told (arc_value c.args.config.now) opening history (λ old new reached_old reached_new.
           inl (c.in-Err-live_in.ensures.kept told_left (λ e l r. only.1 e l (c.choose.ensures.crash told_new e l r) ∙ sym same) opening history has c.args.plan.ending premise new reached_new));
     })
 
@@ -37,7 +38,7 @@ returns-in-Ok-live_in-clause-lived g c =
     let older : List ℕ = g.L.Log.seen c.args.older in
     let newest : List ℕ = g.L.Log.seen c.args.newest in
     let none : IsUnbegun newest = subst (IsChosenBy newest) c.in-Ok-Older.field-0-is (c.in-Ok-Older.ensures.chosen gone) in
-    c.in-Ok-live_in.ensures.lived told premise opening history (older_has c.args.config.now opening history older newest none have))))
+    c.in-Ok-live_in.ensures.lived told premise opening history (older_has (arc_value c.args.config.now) opening history older newest none have))))
 
 pub returns-in-Err-live_in-2-clause-lived : goal.returns-in-Err-live_in-2-clause-lived
 returns-in-Err-live_in-2-clause-lived g c =
@@ -49,10 +50,10 @@ returns-in-Err-live_in-2-clause-lived g c =
     record {
       left = history;
       life = refl;
-      have = c.not_begun-in-Err-live_in-2.ensures.have told c.args.config.now opening history (λ old new reached_old reached_new.
+      have = c.not_begun-in-Err-live_in-2.ensures.have told (arc_value c.args.config.now) opening history (λ old new reached_old reached_new.
           inr (
             subst IsUnbegun (sym (only.1 c.args.plan.ending new (c.choose.ensures.crash both.1 c.args.plan.ending new reached_new))) none,
-            c.in-Err-live_in-2.ensures.kept both.0 only.0 opening history (older_has c.args.config.now opening history older newest none have) c.args.plan.ending premise old reached_old,
+            c.in-Err-live_in-2.ensures.kept both.0 only.0 opening history (older_has (arc_value c.args.config.now) opening history older newest none have) c.args.plan.ending premise old reached_old,
           ));
     })
 
@@ -63,8 +64,8 @@ returns-in-Err-clause-lived g c =
     record {
       left = history;
       life = refl;
-      have = c.not_begun-in-Err.ensures.have told c.args.config.now opening history (λ old new reached_old reached_new.
-          subst (λ (file : List ℕ). HasHistory c.args.config.now opening history new ⊎ (IsUnbegun new × HasHistory c.args.config.now opening history file)) (sym (only.0 c.args.plan.ending old reached_old))
-          (subst (λ (file : List ℕ). HasHistory c.args.config.now opening history file ⊎ (IsUnbegun file × HasHistory c.args.config.now opening history (g.L.Log.seen c.args.older)))
+      have = c.not_begun-in-Err.ensures.have told (arc_value c.args.config.now) opening history (λ old new reached_old reached_new.
+          subst (λ (file : List ℕ). HasHistory (arc_value c.args.config.now) opening history new ⊎ (IsUnbegun new × HasHistory (arc_value c.args.config.now) opening history file)) (sym (only.0 c.args.plan.ending old reached_old))
+          (subst (λ (file : List ℕ). HasHistory (arc_value c.args.config.now) opening history file ⊎ (IsUnbegun file × HasHistory (arc_value c.args.config.now) opening history (g.L.Log.seen c.args.older)))
           (sym (only.1 c.args.plan.ending new (c.choose.ensures.crash both.1 c.args.plan.ending new reached_new))) have));
     })

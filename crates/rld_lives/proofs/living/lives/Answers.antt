@@ -1,4 +1,5 @@
 use Rattle.std.proofs.Common.{◌≡◌, [], ◌∷◌, ◌++◌, All, List, length, ap, sym, subst, ◌∙◌, arith}
+use Rattle.std.specs.Arc.{arc_value}
 use Rattle.std.specs.List.{AllByRecursion}
 use Rattle.std.specs.Vec.Iter.{into_iter_items}
 use Rattle.std.proofs.lemmas.List.{length-map}
@@ -30,7 +31,7 @@ loop-plan-init g c =
           subst (λ (plans : List Plan). AllByRecursion (λ (plan : Plan). Premise g.L.Log.tears plan.ending) plans) (sym gives.0)
           (recursion_from_All (λ (plan : Plan). Premise g.L.Log.tears plan.ending) c.args.plans.items premises);
       have = λ gone told only premises opening history have.
-          none_gone c.args.config.now opening history (plans_of c.args.plans.items) g.L.Log.seen c.in-Ok.told.items (plans_of left) c.args.logs.older c.args.logs.newest c.in-Ok.ensures.items (ap plans_of (sym gives.0)) have;
+          none_gone (arc_value c.args.config.now) opening history (plans_of c.args.plans.items) g.L.Log.seen c.in-Ok.told.items (plans_of left) c.args.logs.older c.args.logs.newest c.in-Ok.ensures.items (ap plans_of (sym gives.0)) have;
     }
 
 pub loop-plan-preserved : goal.loop-plan-preserved
@@ -59,7 +60,7 @@ loop-plan-preserved g c =
       have = λ gone told only premises opening history have.
           let was = c.live_over-one.ensures.told (before gone).1 told in
           let so = now.have (before gone).0 was only premises opening history have in
-          one_gone c.args.config.now opening history (plans_of c.args.plans.items) g.L.Log.seen c.loop-plan.told.items c.push_reserved.new.self.items one.told (plans_of (into_iter_items c.loop-plan.plan-iterator)) (plans_of rest)
+          one_gone (arc_value c.args.config.now) opening history (plans_of c.args.plans.items) g.L.Log.seen c.loop-plan.told.items c.push_reserved.new.self.items one.told (plans_of (into_iter_items c.loop-plan.plan-iterator)) (plans_of rest)
           (batches_of c.in-Some.plan.steps.items) c.loop-plan.logs.older one.logs.older c.loop-plan.logs.newest one.logs.newest (ap plans_of next) c.push_reserved.ensures.items so
           (c.live_over-one.ensures.lived (before gone).1 told (now.settled was only) (all premises).0 opening so.mid so.have);
     }
@@ -68,7 +69,7 @@ pub returns-clause-lived : goal.returns-clause-lived
 returns-clause-lived g c = λ gone told only premises opening history have.
     let rest : List Plan = into_iter_items c.loop-plan.plan-iterator in
     let none : length (plans_of rest) ≡ 0 = length-map rest (λ (plan : Plan). batches_of plan.steps.items) ∙ (omega (arith, c.loop-plan.invariant.len, c.in-None.ensures.steps.0)) in
-    all_gone c.args.config.now opening history (plans_of c.args.plans.items) g.L.Log.seen c.loop-plan.told.items (plans_of rest) c.loop-plan.logs.older c.loop-plan.logs.newest none (c.loop-plan.invariant.have gone told only premises opening history have)
+    all_gone (arc_value c.args.config.now) opening history (plans_of c.args.plans.items) g.L.Log.seen c.loop-plan.told.items (plans_of rest) c.loop-plan.logs.older c.loop-plan.logs.newest none (c.loop-plan.invariant.have gone told only premises opening history have)
 
 pub returns-clause-told : goal.returns-clause-told
 returns-clause-told g c = λ gone told. c.loop-plan.invariant.tells gone told

@@ -1,4 +1,5 @@
 use Rattle.std.proofs.Common.{◌≡◌, ◌+◌, ◌≤◌, ◌++◌, ◌∷◌, All, List, Option, IsTrue, length, vec_len}
+use Rattle.std.specs.Arc.{arc_value}
 use Rattle.std.specs.Prelude.{IfSome}
 use Rattle.std.specs.List.{AllByRecursion}
 use Rattle.std.specs.Vec.{vec_capacity}
@@ -29,6 +30,6 @@ invariant-loop-plan g l = record {
   premises : All (λ (plan : Plan). Premise g.L.Log.tears plan.ending) l.fn.plans.items → AllByRecursion (λ (plan : Plan). Premise g.L.Log.tears plan.ending) (into_iter_items l.plan-iterator);
   have : All (λ (gone : Option g.row.L.Denot). IfSome gone (λ log. IsTrue (g.L.Log.tells log))) l.gone.items → OfEach (λ log. IsTrue (g.L.Log.tells log)) l.logs.older l.logs.newest
       → OfEach (λ log. Only (g.L.Log.seen log) (g.L.Log.may_leave log)) l.fn.logs.older l.fn.logs.newest → All (λ (plan : Plan). Premise g.L.Log.tears plan.ending) l.fn.plans.items
-      → (opening : ServerSeen) (history : List Move) → HaveHistory l.config opening history g.L.Log.seen l.fn.logs.older l.fn.logs.newest
-      → HaveGone l.config opening history (plans_of l.fn.plans.items) (told_of l.told.items) (plans_of (into_iter_items l.plan-iterator)) g.L.Log.seen l.logs.older l.logs.newest;
+      → (opening : ServerSeen) (history : List Move) → HaveHistory (arc_value l.config) opening history g.L.Log.seen l.fn.logs.older l.fn.logs.newest
+      → HaveGone (arc_value l.config) opening history (plans_of l.fn.plans.items) (told_of l.told.items) (plans_of (into_iter_items l.plan-iterator)) g.L.Log.seen l.logs.older l.logs.newest;
 }

@@ -29,10 +29,10 @@ returns-in-Ok-replay_each-clause-there c =
     is_there c.args.config.now (map (λ (payload : Bor (List ℕ)). payload.now) c.args.payloads.now) batches c.in-Ok.parts.front.payload.now c.in-Ok.parts.snapshot.payload.now
     c.in-Ok-front.front.header c.in-Ok-books.books c.replay_each.new.books c.in-Ok-replay_each.moves
     c.in-Ok.ensures.are.are
-    (c.in-Ok-front.ensures.spelled.0 ∙ ap (front_octets c.in-Ok-front.front.header) c.in-Ok-own_table.ensures.same) c.in-Ok-front.ensures.spelled.1 c.in-Ok-books.ensures.server c.in-Ok-books.ensures.spelled
+    (c.in-Ok-front.ensures.spelled.0 ∙ ap (front_octets c.in-Ok-front.front.header) c.in-Ok-check_table.ensures.same) c.in-Ok-front.ensures.spelled.1 c.in-Ok-books.ensures.server c.in-Ok-books.ensures.spelled
     (subst (λ (counts : Counts). AreReplayed counts batches c.in-Ok-books.books c.replay_each.new.books c.in-Ok-replay_each.moves) c.counts_in-counts.ensures c.in-Ok-replay_each.ensures.spelled)
 
-pub returns-in-Err-own_table-clause-why : goal.returns-in-Err-own_table-clause-why
-returns-in-Err-own_table-clause-why c =
+pub returns-in-Err-check_table-clause-why : goal.returns-in-Err-check_table-clause-why
+returns-in-Err-check_table-clause-why c =
     table_why (counts_of c.args.config.now) (octets_of c.args.config.now) (map (λ (payload : Bor (List ℕ)). payload.now) c.args.payloads.now) c.in-Ok.parts c.in-Ok.ensures.are
-    c.in-Ok-front.front.header c.in-Ok-front.front.table.payload.now c.in-Ok-front.front.table.end c.in-Err-own_table.fault c.in-Ok-front.ensures.spelled.0 c.in-Ok-front.ensures.end c.in-Err-own_table.ensures.why
+    c.in-Ok-front.front.header c.in-Ok-front.front.table.payload.now c.in-Ok-front.front.table.end c.in-Err-check_table.fault c.in-Ok-front.ensures.spelled.0 c.in-Ok-front.ensures.end c.in-Err-check_table.ensures.why

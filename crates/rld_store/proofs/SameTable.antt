@@ -1,6 +1,6 @@
 -- Two configurations with one table have the same new books, so what stands for a history by one of them
 -- stands for it by the other.
-use Rattle.std.proofs.Common.{◌≡◌, ℕ, List, length, map, sym, ap, subst, ◌∙◌}
+use Rattle.std.proofs.Common.{◌≡◌, ℕ, List, ◌∷◌, length, map, sym, ap, subst, ◌∙◌}
 use Rattle.std.proofs.lemmas.List.{length-map}
 use Rattle.std.proofs.lemmas.Simd.{map-map}
 use Rattle.rsl_accounts.specs.Configuration.{Configuration}
@@ -13,9 +13,11 @@ use Rattle.rld_log.specs.declared.log.Ending.{Ending}
 use Rattle.rld_spelling.specs.TableSpelled.{TableSeen, table_octets}
 use Rattle.rld_spelling.specs.Tables.{account_row, client_row, table_of}
 use Rattle.rld_spelling.specs.declared.table.TableAccount.{TableAccount}
+use Rattle.rld_spelling.specs.Moves.{moves_field}
+use Rattle.rld_spelling.specs.declared.header.Header.{Header}
 use Rattle.rld_spelling.specs.declared.moves.Counts.{Counts}
-use Rattle.rld_store.specs.Generations.{IsGeneration, counts_of, octets_of}
-use Rattle.rld_store.specs.Standing.{StandsFor}
+use Rattle.rld_store.specs.Generations.{AreBatches, IsGeneration, IsSnapshot, counts_of, front_octets, octets_of}
+use Rattle.rld_store.specs.Standing.{EndsSo, StandsFor}
 use Rattle.rld_store.specs.declared.store.End.{End}
 
 -- ---- new books
@@ -53,11 +55,19 @@ module _ (one other : Configuration) (same : table_of one ≡ table_of other) wh
   pub still_server : (books : ServerSeen) → IsServerOf one books → IsServerOf other books
   still_server books of = of ∙ one_new_server
 
-  pub still_stands : (opening : ServerSeen) (counts : Counts) (table : List ℕ) (tears : List ℕ → List ℕ → Type 0) (end : End) (seen : List ℕ) (may_leave : Ending → List ℕ → Type 0) (whole : ℕ) (books : ServerSeen) (history unanswered : List Move)
-      → StandsFor one opening counts table tears end seen may_leave whole books history unanswered → StandsFor other opening counts table tears end seen may_leave whole books history unanswered
-  still_stands opening counts table tears end seen may_leave whole books history unanswered stands = record {
-    counts_are = stands.counts_are ∙ one_counts;
-    table_is = stands.table_is ∙ one_octets;
+  still_generation : (header : Header) (begun : ServerSeen) (moves : List Move) (payloads : List (List ℕ)) → IsGeneration one header begun moves payloads → IsGeneration other header begun moves payloads
+  still_generation header begun moves payloads so = record {
+    header_fits = so.header_fits;
+    snapshot = so.snapshot;
+    snapshot_is = subst (λ (c : Counts). IsSnapshot c begun so.snapshot) one_counts so.snapshot_is;
+    batches = so.batches;
+    batches_are = subst (λ (c : Counts). AreBatches c moves so.batches) one_counts so.batches_are;
+    payloads_are = so.payloads_are ∙ ap (λ (t : List ℕ). front_octets header t ∷ so.snapshot ∷ so.batches) one_octets;
+  }
+
+  pub still_stands : (opening : ServerSeen) (tears : List ℕ → List ℕ → Type 0) (end : End) (seen : List ℕ) (may_leave : Ending → List ℕ → Type 0) (whole : ℕ) (books : ServerSeen) (history unanswered : List Move)
+      → StandsFor one opening tears end seen may_leave whole books history unanswered → StandsFor other opening tears end seen may_leave whole books history unanswered
+  still_stands opening tears end seen may_leave whole books history unanswered stands = record {
     payloads = stands.payloads;
     are = record {
       opening_is = still_server opening stands.are.opening_is;
@@ -65,11 +75,10 @@ module _ (one other : Configuration) (same : table_of one ≡ table_of other) wh
       earlier = stands.are.earlier;
       moves = stands.are.moves;
       are = stands.are.are;
-      generation = subst (λ (t : List ℕ). IsGeneration (counts_of other) t stands.are.header (replay opening stands.are.earlier) stands.are.moves stands.payloads) one_octets
-          (subst (λ (c : Counts). IsGeneration c (octets_of one) stands.are.header (replay opening stands.are.earlier) stands.are.moves stands.payloads) one_counts stands.are.generation);
+      generation = still_generation stands.are.header (replay opening stands.are.earlier) stands.are.moves stands.payloads stands.are.generation;
     };
-    unanswered_fits = stands.unanswered_fits;
+    unanswered_fits = subst (λ (c : Counts). (moves_field c).Fits unanswered) one_counts stands.unanswered_fits;
     size = stands.size;
-    ends = stands.ends;
+    ends = subst (λ (c : Counts). EndsSo end tears seen may_leave stands.payloads ((moves_field c).spell unanswered)) one_counts stands.ends;
     replayed = stands.replayed;
   }
