@@ -206,8 +206,8 @@ Exit status: 0 it is printed; 2 standard output cannot be written; 3 no memory.
 const CHECK: &str = "\
 radlimitd check FILE
 
-Says what is wrong with the server's file FILE, or with the account file that it names: the first fault, with the
-file and the line and column, or the table and key. If both are right it prints `ok`, and what to know of them.
+Says what is wrong with the server's file FILE, or with the account file that it names: each fault, 20 at most, with
+the file and the line and column, or the table and key. If both are right it prints `ok`, and what to know of them.
 
     radlimitd check /etc/radlimit/radlimitd.toml
 
