@@ -1,5 +1,6 @@
 -- Who may replace the files of a folder.
-use Rattle.std.specs.Prelude.{ℕ, Bool, not, ◌==◌, ◌&&◌, ◌||◌, bit_and}
+use Rattle.std.specs.Prelude.{ℕ, Bool, not, ◌==◌, ◌&&◌, ◌||◌, bit_and, List, codes, length, Option, Some, None, if◌then◌else◌}
+use Rattle.std.specs.Path.{path_parent}
 
 -- whether everybody can make and remove files in a folder of this mode
 abbrev pub others_write : (mode : ℕ) → Bool
@@ -14,3 +15,11 @@ group_writes mode owner group = not (bit_and mode 16 == 0) && not (group == 0) &
 abbrev pub is_open : (mode owner group : ℕ) → Bool
 is_open mode owner group =
     bit_and mode 512 == 0 && (others_write mode || group_writes mode owner group)
+
+-- the folder of a file: the one that it is run in, where its name has none
+abbrev pub folder_or_here : Option (List ℕ) → List ℕ
+folder_or_here None = codes "."
+folder_or_here (Some folder) = if length folder == 0 then codes "." else folder
+
+abbrev pub folder_of : (name : List ℕ) → List ℕ
+folder_of name = folder_or_here (path_parent name)

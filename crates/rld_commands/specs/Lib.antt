@@ -1,5 +1,10 @@
+pub mod Asking
+pub mod Exporting
+pub mod Files
 pub mod Folder
+pub mod Logs
 pub mod Outcome
+pub mod Sessions
 pub mod Status
 pub mod Token
 pub mod Words

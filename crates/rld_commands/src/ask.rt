@@ -1,3 +1,11 @@
+ghost use Rattle.std.specs.Prelude.{◌≡◌, ◌≢◌, ◌<◌, ◌^◌, ◌++◌, ◌⊎◌, ℕ, IfErr, IfOk, None, Some, map, ok_or, string_bytes};
+ghost use Rattle.std.specs.Fmt.{decimal};
+ghost use Rattle.rld_commands.specs.Asking.{IsDoneWith, IsLate, IsRefusal, IsSentAs, IsSilent, IsWhyNot, flag_text, flags_text, words_text};
+ghost use Rattle.rld_control.specs.Command.{command_of};
+ghost use Rattle.rld_words.specs.Given.{seen, value_of};
+ghost use Rattle.rld_words.specs.Waits.{patience_in as patience_of_secs, patience_of};
+ghost use Rattle.rld_commands.specs.declared.fault.Fault.TheVariants.{NoMemory as no_memory, Usage as usage};
+
 use crate::answer::Answer;
 use crate::fault::Fault;
 use crate::files::paths_of;
@@ -7,20 +15,13 @@ use form_urlencoded::Serializer;
 use rld_config::Paths;
 use rld_control::{Command, Reply};
 use rld_words::{Flag, Given, Misuse, Patience, Topic};
-use std::alloc::Global;
+use std::alloc::{AllocError, Global};
 use std::fs::Files;
 use std::io::{self, ErrorKind, IsTerminal, Write};
 use std::net::Net;
 use std::os::unix::net::UnixStream;
 use std::path::PathBuf;
 use std::time::Clock;
-
-/// The flags that a running server is sent, with their words.
-const SENT: [(Flag, &str); 3] = [
-    (Flag::Json, " --json"),
-    (Flag::Held, " --held"),
-    (Flag::Full, " --full"),
-];
 
 /// Sends a command as a line to the running server of the file that the last word names, and writes the lines of
 /// its answer. `--timeout` and its seconds are not sent.
@@ -56,7 +57,11 @@ pub(crate) fn ask<R: Files + Net + Clock, W: Write, S: Write + IsTerminal>(
 }
 
 /// Checks that a line is a command to the server. `Usage` comes if it is not.
-pub(crate) fn check_line(alloc: Global, line: &str, topic: Topic) -> Result<(), Fault> {
+pub(crate) fn check_line(alloc: Global, line: &str, topic: Topic) -> Result<(), Fault>
+    ensures command { IfOk result (λ _. command_of line.now ≢ None) }
+    ensures fault { IfErr result (λ fault. (fault ≡ no_memory)
+        ⊎ ((fault ≡ usage (Misuse.Unreadable topic)) × (command_of line.now ≡ None))) }
+{
     match Command::read(alloc, line.as_bytes())? {
         Some(_) => Ok(()),
         None => Err(Fault::Usage(Misuse::Unreadable(topic))),
@@ -71,7 +76,11 @@ pub(crate) fn control_of<F: Files>(files: &F, alloc: Global, name: &str) -> Resu
 
 /// How long the answer to a command is waited for, of which this is given. `Usage` comes where `--timeout` has no
 /// number of seconds.
-pub(crate) fn patience_in(topic: Topic, given: &Given<'_>) -> Result<Patience, Fault> {
+pub(crate) fn patience_in(topic: Topic, given: &Given<'_>) -> Result<Patience, Fault>
+    ensures none { value_of (seen given.now) Flag.Timeout ≡ None → result ≡ Ok (patience_of topic) }
+    ensures some { (secs : ℕ) → secs < 2 ^ 32 → value_of (seen given.now) Flag.Timeout ≡ Some (decimal secs) →
+        result ≡ ok_or (patience_of_secs secs) (usage (Misuse.Unreadable topic)) }
+{
     match given.value(Flag::Timeout) {
         Some(word) => match Patience::of_word(word) {
             Some(patience) => Ok(patience),
@@ -104,7 +113,16 @@ impl Asked<'_> {
         line: &str,
         stderr: &mut S,
     ) -> Result<Vec<u8>, Fault> {
-        let mut octets = self.answer(rt, alloc, line, stderr)?;
+        let octets = self.answer(rt, alloc, line, stderr)?;
+        self.lines_of(alloc, octets)
+    }
+
+    /// The lines of an answer, or why there are none.
+    fn lines_of(&self, alloc: Global, octets: Vec<u8>) -> Result<Vec<u8>, Fault>
+        ensures done { IfOk result (λ lines. IsDoneWith self.now.topic octets.items lines.items) }
+        ensures fault { IfErr result (IsWhyNot self.now.topic self.now.path.now octets.items) }
+    {
+        let mut octets = octets;
         let len = match Outcome::of(self.topic, Reply::of(octets.as_slice())) {
             Outcome::Done(lines) => lines.len(),
             Outcome::NotHeld => return Err(Fault::NotHeld),
@@ -158,7 +176,9 @@ impl Asked<'_> {
     }
 
     /// The fault of a server that does not do it, for this reason.
-    fn refused(&self, why: String) -> Fault {
+    fn refused(&self, why: String) -> Fault
+        ensures { IsRefusal self.now.topic (string_bytes why) result }
+    {
         match self.topic {
             Topic::Ready => Fault::NotReady(why),
             _ => Fault::Refused(why),
@@ -166,7 +186,10 @@ impl Asked<'_> {
     }
 
     /// The fault of a control socket at which no server answers.
-    pub(crate) fn silent(&self, alloc: Global) -> Result<Fault, Fault> {
+    pub(crate) fn silent(&self, alloc: Global) -> Result<Fault, Fault>
+        ensures silent { IfOk result (IsSilent self.now.topic self.now.path.now) }
+        ensures fault { IfErr result (λ fault. fault ≡ no_memory) }
+    {
         Ok(match self.topic {
             Topic::Ready => Fault::NotReady(format!(in alloc; "{}: no server answers", self.path)?),
             _ => Fault::Silent(String::from_str(alloc, self.path)?),
@@ -175,7 +198,10 @@ impl Asked<'_> {
 
     /// The fault of an answer that has not come in time: no server answers, unless the words said
     /// the time.
-    fn late(&self, alloc: Global) -> Result<Fault, Fault> {
+    fn late(&self, alloc: Global) -> Result<Fault, Fault>
+        ensures late { IfOk result (IsLate self.now.topic self.now.patience self.now.path.now) }
+        ensures fault { IfErr result (λ fault. fault ≡ no_memory) }
+    {
         match self.patience {
             Patience::Seconds(secs) if Patience::of(self.topic).takes_timeout() => Ok(Fault::Late(
                 String::from_str(alloc, self.path)?,
@@ -187,23 +213,49 @@ impl Asked<'_> {
 }
 
 /// A command as one line, without its line feed: its name, the flags that are sent, and its words.
-fn line_of(
-    alloc: Global,
-    topic: Topic,
-    given: &Given<'_>,
-    words: &[&str],
-) -> Result<String, Fault> {
+fn line_of(alloc: Global, topic: Topic, given: &Given<'_>, words: &[&str]) -> Result<String, Fault>
+    ensures line { IfOk result (λ line.
+        IsSentAs topic (seen given.now) (map (λ word. word.now) words.now) (string_bytes line)) }
+    ensures fault { IfErr result (λ fault. fault ≡ no_memory) }
+{
     let mut line = String::from_str(alloc, topic.word())?;
-    for (flag, word) in SENT {
-        if given.has(flag) {
-            line.push_str(word)?;
-        }
+    push_flags(&mut line, given)?;
+    push_words(&mut line, words)?;
+    Ok(line)
+}
+
+/// Adds the flags that a running server is sent.
+fn push_flags(line: &mut String, given: &Given<'_>) -> Result<(), AllocError>
+    ensures { IfOk result (λ _. string_bytes line.new
+        ≡ string_bytes line.old ++ flags_text (seen given.now)) }
+{
+    push_flag(line, given, Flag::Json, " --json")?;
+    push_flag(line, given, Flag::Held, " --held")?;
+    push_flag(line, given, Flag::Full, " --full")
+}
+
+/// Adds the word of a flag, if it is given.
+fn push_flag(line: &mut String, given: &Given<'_>, flag: Flag, word: &str) -> Result<(), AllocError>
+    ensures { IfOk result (λ _. string_bytes line.new
+        ≡ string_bytes line.old ++ flag_text (seen given.now) flag word.now) }
+{
+    if given.has(flag) {
+        line.push_str(word)?;
     }
+    Ok(())
+}
+
+/// Adds words, each after a space.
+#[tactic(auto, using(crate::proofs::Words::word_steps))]
+fn push_words(line: &mut String, words: &[&str]) -> Result<(), AllocError>
+    ensures { IfOk result (λ _. string_bytes line.new
+        ≡ string_bytes line.old ++ words_text (map (λ word. word.now) words.now)) }
+{
     for word in words {
         line.push_str(" ")?;
         line.push_str(word)?;
     }
-    Ok(line)
+    Ok(())
 }
 
 /// The line of an ask: the first word is the account's name, and each other one a field of the form, `=` and its

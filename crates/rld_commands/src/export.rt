@@ -1,5 +1,11 @@
 //! `radlimitd export`: the sessions of the logs of a state folder.
 
+ghost use Rattle.std.specs.Prelude.{◌≡◌, ◌<◌, ◌++◌, ◌∷◌, ◌⊎◌, [], ℕ, List, Err, IfErr, IfNone, IfOk, None, Ok, if◌then◌else◌, option_map};
+ghost use Rattle.rld_commands.specs.Exporting.{IsMoment};
+ghost use Rattle.rld_commands.specs.declared.fault.Fault.TheVariants.{NoMemory as no_memory, Usage as usage};
+ghost use Rattle.rld_values.specs.Dates.{AreDates};
+ghost use Rattle.rld_words.specs.Given.{has, seen, value_of};
+
 use crate::cause::cause_of;
 use crate::fault::Fault;
 use crate::files::{bad_file, state_of};
@@ -62,7 +68,9 @@ where
 
 /// Checks that a state folder and its archive have no logs of a version before 0.4, whose sessions would
 /// be missing. `BadLog` of the oldest comes if there are some.
-fn check_former(alloc: Global, state: &str, logs: &[(u64, u64)]) -> Result<(), Fault> {
+fn check_former(alloc: Global, state: &str, logs: &[(u64, u64)]) -> Result<(), Fault>
+    ensures { IfOk result (λ _. logs.now ≡ []) }
+{
     let Some(log) = logs.first() else {
         return Ok(());
     };
@@ -117,7 +125,20 @@ fn read_logs<F: Files, W: Write, S: Write>(
 
 /// What flags ask for: `--csv`, and `--since` and `--until` with a moment after each, the first of which is the
 /// lower.
-fn wanted_of(alloc: Global, given: &Given<'_>) -> Result<Wanted, Fault> {
+fn wanted_of(alloc: Global, given: &Given<'_>) -> Result<Wanted, Fault>
+    ensures form { IfOk result (λ wanted.
+        wanted.form ≡ (if has (seen given.now) Flag.Csv then Form.Csv else Form.Json)) }
+    ensures from_first { value_of (seen given.now) Flag.Since ≡ None →
+        IfOk result (λ wanted. wanted.span.since ≡ 0) }
+    ensures to_last { value_of (seen given.now) Flag.Until ≡ None →
+        IfOk result (λ wanted. wanted.span.until ≡ u64.MAX) }
+    ensures since { (dates : ℕ → List ℕ) → AreDates dates → IfOk result (λ wanted.
+        IsMoment dates (value_of (seen given.now) Flag.Since) wanted.span.since) }
+    ensures until { (dates : ℕ → List ℕ) → AreDates dates → IfOk result (λ wanted.
+        IsMoment dates (value_of (seen given.now) Flag.Until) wanted.span.until) }
+    ensures span { IfOk result (λ wanted. wanted.span.since < wanted.span.until) }
+    ensures fault { IfErr result (λ fault. (fault ≡ no_memory) ⊎ (fault ≡ usage (Misuse.Unreadable Topic.Export))) }
+{
     let form = if given.has(Flag::Csv) {
         Form::Csv
     } else {
@@ -135,7 +156,12 @@ fn wanted_of(alloc: Global, given: &Given<'_>) -> Result<Wanted, Fault> {
 }
 
 /// The moment that a word names, or else this one where there is no word.
-fn moment_of(alloc: Global, word: Option<&str>, none: u64) -> Result<u64, Fault> {
+fn moment_of(alloc: Global, word: Option<&str>, none: u64) -> Result<u64, Fault>
+    ensures none { IfNone word.entry (result ≡ Ok none) }
+    ensures named { (dates : ℕ → List ℕ) → AreDates dates →
+        IfOk result (IsMoment dates (option_map (λ word. word.now) word.entry)) }
+    ensures fault { IfErr result (λ fault. (fault ≡ no_memory) ⊎ (fault ≡ usage (Misuse.Unreadable Topic.Export))) }
+{
     let Some(word) = word else {
         return Ok(none);
     };
@@ -146,7 +172,9 @@ fn moment_of(alloc: Global, word: Option<&str>, none: u64) -> Result<u64, Fault>
 }
 
 /// The fault of words that ask for nothing.
-fn unreadable<T>() -> Result<T, Fault> {
+fn unreadable<T>() -> Result<T, Fault>
+    ensures { result ≡ Err (usage (Misuse.Unreadable Topic.Export)) }
+{
     Err(Fault::Usage(Misuse::Unreadable(Topic::Export)))
 }
 
@@ -173,7 +201,9 @@ where
 }
 
 /// Adds a value to a list.
-fn push<T: Drop>(list: &mut Vec<T>, value: T) -> Result<(), NoMemory> {
+fn push<T: Drop>(list: &mut Vec<T>, value: T) -> Result<(), NoMemory>
+    ensures { IfOk result (λ _. list.new.items ≡ list.old.items ++ value ∷ []) }
+{
     list.push(value)?;
     Ok(())
 }

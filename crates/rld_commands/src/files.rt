@@ -3,7 +3,8 @@
 //! No clause speaks of what the system's files give; `ServerFile::read` and `read_config` read
 //! their texts.
 
-ghost use Rattle.std.specs.Prelude.{◌≡◌, IfNone, IfOk, None};
+ghost use Rattle.std.specs.Prelude.{◌≡◌, IfErr, IfNone, IfOk, None};
+ghost use Rattle.rld_commands.specs.Files.{IsBadFile, IsOfFile, misfit};
 ghost use Rattle.rld_config.specs.Server as server_file;
 ghost use Rattle.rld_config.specs.Trust.{exposure_of};
 
@@ -39,7 +40,9 @@ pub struct AccountFile {
 }
 
 /// The contents of the server's file of this name.
-pub fn server_file<F: Files>(files: &F, alloc: Global, name: &str) -> Result<ServerFile, Fault> {
+pub fn server_file<F: Files>(files: &F, alloc: Global, name: &str) -> Result<ServerFile, Fault>
+    ensures { IfErr result (IsOfFile name.now) }
+{
     let text = file_text(files, alloc, name)?;
     match ServerFile::read(alloc, text.as_slice()) {
         Ok(server) => Ok(server),
@@ -52,13 +55,17 @@ pub fn server_file<F: Files>(files: &F, alloc: Global, name: &str) -> Result<Ser
 }
 
 /// The paths of the server's file of this name.
-pub(crate) fn paths_of<F: Files>(files: &F, alloc: Global, name: &str) -> Result<Paths, Fault> {
+pub(crate) fn paths_of<F: Files>(files: &F, alloc: Global, name: &str) -> Result<Paths, Fault>
+    ensures { IfErr result (IsOfFile name.now) }
+{
     let server = server_file(files, alloc, name)?;
     Ok(Paths::of(alloc, name, &server)?)
 }
 
 /// The path of the state folder of the server's file of this name.
-pub(crate) fn state_of<F: Files>(files: &F, alloc: Global, name: &str) -> Result<PathBuf, Fault> {
+pub(crate) fn state_of<F: Files>(files: &F, alloc: Global, name: &str) -> Result<PathBuf, Fault>
+    ensures { IfErr result (IsOfFile name.now) }
+{
     let Paths { state, .. } = paths_of(files, alloc, name)?;
     Ok(state)
 }
@@ -108,7 +115,10 @@ pub fn unknown_group<F: Files, T>(
     alloc: Global,
     name: &str,
     group: &str,
-) -> Result<T, Fault> {
+) -> Result<T, Fault>
+    ensures fault { IfErr result (IsOfFile name.now) }
+    ensures none { IfOk result (λ _. ⊥) }
+{
     let text = file_text(files, alloc, name)?;
     let wrong = format!(in alloc; "is {group:?}; the system has no group of this name")?;
     let faults = fault_of_key(alloc, text.as_slice(), "control", "group", wrong.as_str())?;
@@ -119,6 +129,7 @@ pub fn unknown_group<F: Files, T>(
 /// not have, or whose client need not sign under a guard, or that takes the address of another client; or a wrong
 /// client of asks.
 fn misfit(server: &ServerFile, config: &Config) -> Option<ServerFault>
+    ensures first { result ≡ misfit server.now.networks.items server.now.ask config.now }
     ensures known { IfNone result
         (server_file.unknown_client server.now.networks.items config.now ≡ None) }
     ensures signing { IfNone result
@@ -146,7 +157,9 @@ pub fn account_file<F: Files>(
     alloc: Global,
     names: &Dictionary,
     name: &str,
-) -> Result<AccountFile, Fault> {
+) -> Result<AccountFile, Fault>
+    ensures { IfErr result (IsOfFile name.now) }
+{
     let text = file_text(files, alloc, name)?;
     let config = match read_config(alloc, names, text.as_slice()) {
         Ok(config) => config,
@@ -167,7 +180,9 @@ pub fn account_file<F: Files>(
 }
 
 /// The text of the file of this name.
-pub(crate) fn file_text<F: Files>(files: &F, alloc: Global, name: &str) -> Result<Vec<u8>, Fault> {
+pub(crate) fn file_text<F: Files>(files: &F, alloc: Global, name: &str) -> Result<Vec<u8>, Fault>
+    ensures { IfErr result (IsOfFile name.now) }
+{
     match read_file(files, alloc, name, MAX_FILE_LEN) {
         Ok(text) => Ok(text),
         Err(TextFault::Unreadable) => Err(unreadable(files, alloc, name)),
@@ -177,12 +192,17 @@ pub(crate) fn file_text<F: Files>(files: &F, alloc: Global, name: &str) -> Resul
 }
 
 /// The fault of a file that cannot be read, with its cause.
-pub(crate) fn unreadable<F: Files>(files: &F, alloc: Global, name: &str) -> Fault {
+pub(crate) fn unreadable<F: Files>(files: &F, alloc: Global, name: &str) -> Fault
+    ensures { IsOfFile name.now result }
+{
     bad_file(alloc, name, Wrong::Unreadable(cause_in(files, name)))
 }
 
 /// The fault of a wrong file; that of memory, if its name finds none.
-pub(crate) fn bad_file(alloc: Global, name: &str, wrong: Wrong) -> Fault {
+pub(crate) fn bad_file(alloc: Global, name: &str, wrong: Wrong) -> Fault
+    ensures of { IsOfFile name.now result }
+    ensures wrong { IsBadFile name.now wrong result }
+{
     match String::from_str(alloc, name) {
         Ok(name) => Fault::BadFile(BadFile { name, wrong }),
         Err(_) => Fault::NoMemory,

@@ -1,7 +1,8 @@
 //! The folders of the server's file and of the account file.
 
-ghost use Rattle.std.specs.Prelude.{◌≡◌};
-ghost use Rattle.rld_commands.specs.Folder.{is_open, others_write, group_writes};
+ghost use Rattle.std.specs.Prelude.{◌≡◌, IfErr};
+ghost use Rattle.rld_commands.specs.Files.{IsOfFile};
+ghost use Rattle.rld_commands.specs.Folder.{folder_of, group_writes, is_open, others_write};
 
 use crate::cause::cause_of;
 use crate::fault::Fault;
@@ -23,7 +24,9 @@ const STICKY: u32 = 0o1000;
 
 /// Checks that nobody but its owner can replace the file of this name by another one: the folder that it is in is
 /// refused where others may write to it.
-pub(crate) fn check_folder<F: Files>(files: &F, alloc: Global, name: &str) -> Result<(), Fault> {
+pub(crate) fn check_folder<F: Files>(files: &F, alloc: Global, name: &str) -> Result<(), Fault>
+    ensures { IfErr result (IsOfFile (folder_of name.now)) }
+{
     let folder = folder_of(name);
     match fs::metadata(files, folder) {
         Ok(found) if is_open(found.permissions().mode(), found.uid(), found.gid()) => {
@@ -35,7 +38,9 @@ pub(crate) fn check_folder<F: Files>(files: &F, alloc: Global, name: &str) -> Re
 }
 
 /// The folder of a file.
-fn folder_of(name: &str) -> &str {
+fn folder_of(name: &str) -> &str
+    ensures { result.now ≡ folder_of name.now }
+{
     match Path::new(name).parent() {
         Some(folder) if !folder.as_str().is_empty() => folder.as_str(),
         _ => ".",

@@ -1,5 +1,11 @@
 //! `radlimitd lines`: the moves of logs, with their decisions.
 
+ghost use Rattle.std.specs.Prelude.{◌≡◌, IfErr, IfOk, Some};
+ghost use Rattle.std.specs.Path.{path_file_name};
+ghost use Rattle.rld_commands.specs.Files.{IsOfFile};
+ghost use Rattle.rld_commands.specs.Logs.{IsFaultOf};
+ghost use Rattle.rld_folder.specs.Names.{name_of};
+
 use crate::fault::Fault;
 use crate::files::{bad_file, unreadable};
 use crate::wrong::{BadLog, Wrong};
@@ -57,7 +63,10 @@ fn lines_of<F: Files, W: Write, S: Write>(
 }
 
 /// The number of the generation in a file's name.
-fn generation_of(alloc: Global, name: &str) -> Result<u64, Fault> {
+fn generation_of(alloc: Global, name: &str) -> Result<u64, Fault>
+    ensures { IfOk result (λ number. path_file_name name.now
+        ≡ Some (name_of (FileName.Log (Generation.Numbered number)))) }
+{
     let Some(last) = Path::new(name).file_name() else {
         return Err(bad_file(alloc, name, Wrong::NoLog));
     };
@@ -71,7 +80,9 @@ fn generation_of(alloc: Global, name: &str) -> Result<u64, Fault> {
 }
 
 /// The octets of a file.
-pub(crate) fn octets_of<F: Files>(files: &F, alloc: Global, name: &str) -> Result<Vec<u8>, Fault> {
+pub(crate) fn octets_of<F: Files>(files: &F, alloc: Global, name: &str) -> Result<Vec<u8>, Fault>
+    ensures { IfErr result (IsOfFile name.now) }
+{
     match read_file(files, alloc, name, u32::MAX) {
         Ok(octets) => Ok(octets),
         Err(TextFault::NoMemory) => Err(Fault::NoMemory),
@@ -81,7 +92,9 @@ pub(crate) fn octets_of<F: Files>(files: &F, alloc: Global, name: &str) -> Resul
 }
 
 /// The fault of a log of this name; that of memory, if its name finds none.
-pub(crate) fn fault_of(alloc: Global, name: &str, fault: LinesFault) -> Fault {
+pub(crate) fn fault_of(alloc: Global, name: &str, fault: LinesFault) -> Fault
+    ensures { IsFaultOf name.now fault result }
+{
     match fault {
         LinesFault::NoMemory => Fault::NoMemory,
         LinesFault::Unwritten => Fault::InputOutput,

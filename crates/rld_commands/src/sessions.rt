@@ -1,5 +1,10 @@
 //! The sessions of a running server: of one account, or of all.
 
+ghost use Rattle.std.specs.Prelude.{◌≡◌, ◌<◌, IfSome, length};
+ghost use Rattle.std.specs.List.{position};
+ghost use Rattle.rld_words.specs.Given.{seen};
+ghost use Rattle.rld_commands.specs.Sessions.{IsPage, SaysNext, is_feed, lines_in, narrows};
+
 use crate::ask::{Asked, ask, check_line, control_of, patience_in};
 use crate::fault::Fault;
 use rld_words::{Flag, Flags, Given, Misuse, NOT_GIVEN, Topic};
@@ -24,19 +29,34 @@ struct Page<'a> {
 
 impl Page<'_> {
     /// The page of the lines of an answer.
-    fn of(lines: &[u8]) -> Option<Page<'_>> {
-        let at = lines.iter().position(|octet| *octet == b'\n')?;
-        let links = &lines[at + 1..];
-        let first = &lines[..at];
-        if first == b"last".as_slice() {
-            return Some(Page { next: None, links });
-        }
-        let name = str::from_utf8(first.strip_prefix(b"more ")?).ok()?;
+    fn of(lines: &[u8]) -> Option<Page<'_>>
+        ensures { IfSome result (IsPage lines.now) }
+    {
+        let at = feed_in(lines)?;
+        let next = next_in(&lines[..at])?;
         Some(Page {
-            next: Some(name),
-            links,
+            next,
+            links: &lines[at + 1..],
         })
     }
+}
+
+/// The offset of the first line feed.
+fn feed_in(lines: &[u8]) -> Option<usize>
+    ensures at { result ≡ position is_feed lines.now }
+    ensures within { IfSome result (λ at. at < length lines.now) }
+{
+    lines.iter().position(|octet| *octet == b'\n')
+}
+
+/// What the first line of a page says of the next one.
+fn next_in(first: &[u8]) -> Option<Option<&str>>
+    ensures { IfSome result (SaysNext first.now) }
+{
+    if first == b"last".as_slice() {
+        return Some(None);
+    }
+    Some(Some(str::from_utf8(first.strip_prefix(b"more ")?).ok()?))
 }
 
 /// Writes the sessions that are asked for: of the account that the words name, else of all that the flags leave. A
@@ -87,7 +107,9 @@ fn sessions_of_all<R: Files + Net + Clock, W: Write, S: Write + IsTerminal>(
 }
 
 /// Whether flags are given that narrow a list of all sessions.
-fn narrows(given: &Given<'_>) -> bool {
+fn narrows(given: &Given<'_>) -> bool
+    ensures { result ≡ narrows (seen given.now) }
+{
     given.has(Flag::Nas)
         || given.has(Flag::Client)
         || given.has(Flag::State)
@@ -130,6 +152,8 @@ pub(crate) fn list<R: Net + Clock, W: Write, S: Write + IsTerminal>(
 }
 
 /// The number of lines.
-fn lines_in(text: &[u8]) -> u64 {
+fn lines_in(text: &[u8]) -> u64
+    ensures { result ≡ lines_in text.now }
+{
     text.iter().filter(|octet| **octet == b'\n').count() as u64
 }

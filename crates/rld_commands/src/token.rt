@@ -1,7 +1,10 @@
 //! The file with the token of asks.
 
-ghost use Rattle.std.specs.Prelude.{◌≡◌, true, IfOk};
-ghost use Rattle.rld_commands.specs.Token.{is_private};
+ghost use Rattle.std.specs.Prelude.{◌≡◌, true, IfErr, IfOk};
+ghost use Rattle.std.specs.Char.{is_ascii_graphic};
+ghost use Rattle.std.specs.List.{list_all};
+ghost use Rattle.rld_commands.specs.Files.{IsOfFile};
+ghost use Rattle.rld_commands.specs.Token.{IsOfToken, is_private, is_token};
 
 use crate::cause::cause_of;
 use crate::fault::Fault;
@@ -30,7 +33,9 @@ pub struct TokenFile {
 /// The token in the file of this path: its one line. The faults of the file come in this order: it cannot be
 /// read, others than its owner can read or write it, it is no token.
 pub fn token_in<F: Files>(files: &F, alloc: Global, path: &str) -> Result<TokenFile, Fault>
-    ensures { IfOk result (λ file. is_private file.mode ≡ true) }
+    ensures private { IfOk result (λ file. is_private file.mode ≡ true) }
+    ensures token { IfOk result (λ file. IsOfToken file.token) }
+    ensures fault { IfErr result (IsOfFile path.now) }
 {
     let text = file_text(files, alloc, path)?;
     let mode = match fs::metadata(files, path) {
@@ -60,9 +65,16 @@ fn is_private(mode: u32) -> bool
 }
 
 /// Whether these octets may be a token.
-fn is_token(octets: &[u8]) -> bool {
+fn is_token(octets: &[u8]) -> bool
+    ensures { result ≡ is_token octets.now }
+{
     let (fewest, most) = TOKEN_LENS;
-    fewest <= octets.len()
-        && octets.len() <= most
-        && octets.iter().all(|octet| octet.is_ascii_graphic())
+    fewest <= octets.len() && octets.len() <= most && are_visible(octets)
+}
+
+/// Whether each octet is a visible character of ASCII.
+fn are_visible(octets: &[u8]) -> bool
+    ensures { result ≡ list_all is_ascii_graphic octets.now }
+{
+    octets.iter().all(|octet| octet.is_ascii_graphic())
 }
