@@ -469,7 +469,7 @@ impl<L: Log> Store<L> {
 
     // ---- look-ups
 
-    /// What each account holds, shard after shard. It fails only if memory is refused.
+    /// What each account holds, in the order of their numbers. It fails only if memory is refused.
     pub fn rows(&self, alloc: Global) -> Result<Vec<Row>, NoMemory>
         ensures { IfOk result (λ rows. rows.items ≡ rows_in self.now.books) }
     {
